@@ -1,0 +1,60 @@
+-- What a checked result is, from facts that `omega` proves.
+use mathlib.Core.Path.{_≡_, ap, sym, _∙_}
+use mathlib.Core.Bool.{cond, true, false}
+use mathlib.Core.Logic.{_↔_}
+use Prim.Native.Nat.{ℕ, suc, _+_, _-_, _*_, _/_, _^_, _<_, _≤_, max}
+use native.Mathlib.Decide.{decLe}
+use native.Mathlib.Nat.{le-div-iff-mul-le, lt-of-not-le}
+use native.Mathlib.Omega.{arith}
+use lib.Dec.{ltb, leb}
+use lib.IntN.{ℤ, pos, negsuc}
+use mir.Syntax.{w64}
+use mir.Val.{SFits, toZ, ofZ}
+use mir.ValLaws.{toZ-ofZ}
+use borrow.Author.Tests.{lt-ltb, le-ltb, le-leb, lt-leb}
+use Rattle.integers.specs.Integers.{isI64, checked}
+use Rattle.integers.specs.declared.Checked.the-variants.{Exact, Outside}
+use Rattle.integers.proofs.Signed.{plus, minus, eqZ}
+
+-- p - m is no i64
+abbrev pub Beyond : ℕ → ℕ → Type 0
+Beyond p m = 2 ^ 63 < max (suc p - m) (m - p)
+
+inside : (z : ℤ) → SFits w64 z → isI64 z ≡ true
+unfolding isI64
+inside (pos n) f = lt-ltb n (2 ^ 63) (f .sfits)
+inside (negsuc n) f = lt-ltb n (2 ^ 63) (f .sfits)
+
+outside : (z : ℤ) → Beyond (plus z) (minus z) → isI64 z ≡ false
+unfolding isI64
+outside (pos n) h = le-ltb n (2 ^ 63) (omega arith)
+outside (negsuc n) h = le-ltb n (2 ^ 63) (omega arith)
+
+-- the machine's result x is the exact one, z
+pub exact : {x : ℤ} (z : ℤ) → SFits w64 x → plus x + minus z ≡ plus z + minus x → Exact (toZ w64 (ofZ w64 x)) ≡ checked z
+unfolding checked
+exact {x} z f h = ap Exact (toZ-ofZ w64 x f) ∙ sym (ap (λ b. cond b (Exact x) Outside) (inside x f)) ∙ ap checked (eqZ x z h)
+
+pub none : (z : ℤ) → Beyond (plus z) (minus z) → Outside ≡ checked z
+unfolding checked
+none z h = sym (ap (λ b. cond b (Exact z) Outside) (outside z h))
+
+-- the same of a number that is known by its test
+pub exact-if : (z : ℤ) → isI64 z ≡ true → Exact z ≡ checked z
+unfolding checked
+exact-if z e = rw e
+
+pub none-if : (z : ℤ) → isI64 z ≡ false → Outside ≡ checked z
+unfolding checked
+none-if z e = rw e
+
+-- the test of `is_below_top` compares a product by a quotient
+pub below-top : (n k r : ℕ) → r < k → r < 2 ^ 63 → leb n ((9223372036854775807 - r) / k) ≡ ltb (n * k + r) (2 ^ 63)
+below-top n k r h l = go (decLe (n * k) (9223372036854775807 - r))
+  where
+    d : (n ≤ (9223372036854775807 - r) / k) ↔ (n * k ≤ 9223372036854775807 - r)
+    d = le-div-iff-mul-le (omega arith)
+
+    go : Dec (n * k ≤ 9223372036854775807 - r) → leb n ((9223372036854775807 - r) / k) ≡ ltb (n * k + r) (2 ^ 63)
+    go (yes p) = le-leb _ _ (d .1 p) ∙ sym (lt-ltb (n * k + r) (2 ^ 63) (omega arith))
+    go (no p) = lt-leb _ _ (lt-of-not-le (λ x. p (d .0 x))) ∙ sym (le-ltb (n * k + r) (2 ^ 63) (omega arith))
