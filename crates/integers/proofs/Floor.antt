@@ -78,6 +78,13 @@ parts-floor k {z} {q} {r} p m s s′ t t′ e f g h =
     (omega (arith, ap (λ x. x * k) f, add-mul (plus q) (m + t′) k, add-mul m t′ k, add-mul (p + t) (minus q) k, add-mul p t k))
     h
 
+-- c divisors more
+pub floor-add : {k : ℕ} {n q : ℤ} {r : ℕ} (c : ℤ) → Floor k n q r → Floor k (n +ℤ c *ℤ pos k) (q +ℤ c) r
+floor-add {k} {n} {q} {r} c f =
+    parts-floor k (plus q + plus c) (minus q + minus c) r 0 0 0
+    (omega (arith, splits f, add-law n (c *ℤ pos k), times-law c k, add-mul (plus q) (plus c) k, add-mul (minus q) (minus c) k))
+    (omega (arith, add-law q c)) (omega arith) (f .small)
+
 module _ (k : ℕ) (a b : Parts) {q : ℤ} {r : ℕ} (t : ℕ) where
   pub sum-floor : Is q (plus (a .quotient) + plus (b .quotient) + t) (minus (a .quotient) + minus (b .quotient)) → a .rest + b .rest ≡ r + t * k → r < k → Floor k (whole k a +ℤ whole k b) q r
   unfolding whole

@@ -3,14 +3,15 @@ use mathlib.Core.Path.{_≡_, sym, ap, subst, _∙_}
 use mathlib.Core.Bool.{Bool, true, false}
 use Prim.Native.Nat.{ℕ, suc, _+_, _*_, _-_, _/_, _%_, _^_, _<_, _≤_, max}
 use native.Mathlib.Omega.{arith}
-use lib.Dec.{T, ltb, lit≤}
+use native.Mathlib.Nat.{mul-le-mul-right, div-le-self}
+use lib.Dec.{T, ltb, ltb→lt, lit≤}
 use lib.IntN.{ℤ, pos, negsuc, natAbs, _+ℤ_, _-ℤ_, _*ℤ_}
 use lib.Signed.{mag, ltZ, nonNeg, quotZ, remZ, mag-rem, pos-natAbs}
 use mir.Syntax.{Width, w8, w16, w32, w64, w128}
 use mir.Val.{SFits, Fits, toZ, ofZ, sel, hbits, bits}
 use mir.ValLaws.{toZ-ofZ, toZ-pos, sfits-le}
 use borrow.Author.Tests.{le-ltb}
-use Rattle.integers.proofs.Signed.{plus, minus, Is, eqZ, plus≡, minus≡, add-law, diff-law, times-law, quot-law, rem-law, lt-true, lt-false, true-lt, false-lt}
+use Rattle.integers.proofs.Signed.{plus, minus, Is, apart, size-law, eqZ, plus≡, minus≡, add-law, diff-law, times-law, quot-law, rem-law, lt-true, lt-false, true-lt, false-lt}
 
 -- ---- ranges
 -- p - m fits, as one statement
@@ -145,6 +146,40 @@ pub record Two (w : Width) (a b : ℤ) : Type 0 where
 
 pub two : {w : Width} {a b : ℤ} → SFits w a → SFits w b → Two w a b
 two {w} {a} {b} f g = record { left = known f; right = known g; sum = add-law a b; difference = diff-law a b }
+
+-- ---- sizes along a computation, where the exact values would be too much for `omega`
+pub record Small (b : ℕ) (z : ℤ) : Type 0 where
+  pub top : plus z ≤ b
+  pub low : minus z ≤ b
+
+pub small-size : {b : ℕ} {z : ℤ} → natAbs z ≤ b → Small b z
+small-size {z = z} h = record { top = omega (arith, size-law z); low = omega (arith, size-law z) }
+
+pub small-pos : {b : ℕ} (n : ℕ) → n ≤ b → Small b (pos n)
+small-pos n h = record { top = h; low = omega arith }
+
+pub small-back : {w : Width} {b : ℕ} {z : ℤ} → SFits w z → Small b z → Small b (toZ w (ofZ w z))
+small-back {w} {b} {z} f s = subst (Small b) (sym (toZ-ofZ w z f)) s
+
+pub small-add : {m n : ℕ} {a b : ℤ} → Small m a → Small n b → Small (m + n) (a +ℤ b)
+small-add {a = a} {b = b} s t = record { top = omega (arith, add-law a b, apart (a +ℤ b), s .top, t .top); low = omega (arith, add-law a b, apart (a +ℤ b), s .low, t .low) }
+
+pub small-sub : {m n : ℕ} {a b : ℤ} → Small m a → Small n b → Small (m + n) (a -ℤ b)
+small-sub {a = a} {b = b} s t = record { top = omega (arith, diff-law a b, apart (a -ℤ b), s .top, t .low); low = omega (arith, diff-law a b, apart (a -ℤ b), s .low, t .top) }
+
+pub small-mul : {m : ℕ} {a : ℤ} (k : ℕ) → Small m a → Small (m * k) (a *ℤ pos k)
+small-mul {m} {a} k s =
+    let l = mul-le-mul-right k (s .top) in
+    let h = mul-le-mul-right k (s .low) in
+    record { top = omega (arith, times-law a k, apart (a *ℤ pos k)); low = omega (arith, times-law a k, apart (a *ℤ pos k)) }
+
+pub small-quot : {m : ℕ} {a : ℤ} (k : ℕ) → Small m a → Small m (quotZ a (pos k))
+small-quot {m} {a} k s =
+    let q = quotZ a (pos k) in
+    record { top = omega (arith, quot-law a k, apart q, div-le-self (plus a) k, s .top); low = omega (arith, quot-law a k, apart q, div-le-self (minus a) k, s .low) }
+
+pub small-fits : {w : Width} {b : ℕ} {z : ℤ} → T (ltb b (2 ^ hbits w)) → Small b z → SFits w z
+small-fits {w} {b} {z} t s = fit w z (omega (arith, ltb→lt b (2 ^ hbits w) t, s .top, s .low))
 
 -- ---- a number's bits
 half≤ : (w : Width) → 2 ^ hbits w ≤ 2 ^ bits w

@@ -1,0 +1,108 @@
+-- The months of a year: sums of their lengths, and the tables that hold them.
+use mathlib.Core.Path.{_≡_, refl, ap, _∙_}
+use mathlib.Core.Bool.{Bool, true, false}
+use mathlib.Core.List.{List, [], _∷_}
+use Prim.Native.Nat.{ℕ, zero, suc, _+_, _*_, _-_, _≤_, _<_}
+use native.Mathlib.Omega.{arith}
+use lib.Dec.{eqb, leb, ltb, eqb→eq, leb→le, ltb→lt}
+use lib.IntN.{ℤ}
+use lib.ListN.{getD}
+use mir.Val.{boolByte}
+use Rattle.calendar.specs.declared.Date.{Date}
+use Rattle.calendar.specs.Walk.{isLeap, monthRow, monthLength, Valid}
+use Rattle.calendar.specs.Closed.{yearLength, sumTo, dayOfYear, InYear}
+use Rattle.calendar.proofs.Table.{at}
+
+pub sum-zero : (row : List ℕ) → sumTo row 0 ≡ 0
+unfolding sumTo
+sum-zero row = refl
+
+pub sum-suc : (row : List ℕ) (n : ℕ) → sumTo row (suc n) ≡ sumTo row n + getD row n 0
+unfolding sumTo
+sum-suc [] zero = refl
+sum-suc [] (suc n) = refl
+sum-suc (x ∷ row) zero = omega arith
+sum-suc (x ∷ row) (suc n) = omega (arith, sum-suc row n)
+
+-- sums grow with the number of months
+sum-more : (row : List ℕ) (m n : ℕ) → sumTo row m ≤ sumTo row (m + n)
+sum-more row m zero = let e : sumTo row (m + 0) ≡ sumTo row m = ap (sumTo row) (omega arith) in omega arith
+sum-more row m (suc n) =
+    let e : sumTo row (m + suc n) ≡ sumTo row (suc (m + n)) = ap (sumTo row) (omega arith) in
+    omega (arith, sum-more row m n, sum-suc row (m + n))
+
+pub sum-grows : (row : List ℕ) (m n : ℕ) → m ≤ n → sumTo row m ≤ sumTo row n
+sum-grows row m n h =
+    let e : sumTo row (m + (n - m)) ≡ sumTo row n = ap (sumTo row) (omega arith) in omega (arith, sum-more row m (n - m))
+
+pub year-sum : (leap : Bool) → sumTo (monthRow leap) 12 ≡ yearLength leap
+unfolding sumTo monthRow yearLength
+year-sum true = refl
+year-sum false = refl
+
+-- ---- rules of the rows, each by one test over all entries
+pub month-some : (leap : Bool) (k : ℕ) → k < 12 → 1 ≤ getD (monthRow leap) k 0
+unfolding monthRow
+month-some true k h = ltb→lt 0 _ (at (λ i x. ltb 0 x) (monthRow true) tt k h)
+month-some false k h = ltb→lt 0 _ (at (λ i x. ltb 0 x) (monthRow false) tt k h)
+
+pub month-top : (leap : Bool) (k : ℕ) → k < 12 → getD (monthRow leap) k 0 ≤ 31
+unfolding monthRow
+month-top true k h = leb→le _ 31 (at (λ i x. leb x 31) (monthRow true) tt k h)
+month-top false k h = leb→le _ 31 (at (λ i x. leb x 31) (monthRow false) tt k h)
+
+pub length-some : (year : ℤ) (month : ℕ) → 1 ≤ month → month ≤ 12 → 1 ≤ monthLength year month
+unfolding monthLength
+length-some year month h l = month-some (isLeap year) (month - 1) (omega arith)
+
+-- the code's second table, and its rule
+unfoldable pub doyRow : Bool → List ℕ
+doyRow false = 0 ∷ 31 ∷ 59 ∷ 90 ∷ 120 ∷ 151 ∷ 181 ∷ 212 ∷ 243 ∷ 273 ∷ 304 ∷ 334 ∷ 365 ∷ []
+doyRow true = 0 ∷ 31 ∷ 60 ∷ 91 ∷ 121 ∷ 152 ∷ 182 ∷ 213 ∷ 244 ∷ 274 ∷ 305 ∷ 335 ∷ 366 ∷ []
+
+pub doy-is : (leap : Bool) (k : ℕ) → k ≤ 12 → getD (doyRow leap) k 0 ≡ sumTo (monthRow leap) k
+unfolding doyRow monthRow sumTo
+doy-is true k h = eqb→eq _ _ (at (λ i x. eqb x (sumTo (monthRow true) i)) (doyRow true) tt k (omega arith))
+doy-is false k h = eqb→eq _ _ (at (λ i x. eqb x (sumTo (monthRow false) i)) (doyRow false) tt k (omega arith))
+
+-- no months have more than 32 days each
+pub doy-low : (leap : Bool) (k : ℕ) → k ≤ 12 → sumTo (monthRow leap) k ≤ 32 * k
+unfolding doyRow
+doy-low leap k h = omega (arith, doy-is leap k h, low leap)
+  where
+    low : (leap : Bool) → getD (doyRow leap) k 0 ≤ 32 * k
+    low true = leb→le _ _ (at (λ i x. leb x (32 * i)) (doyRow true) tt k (omega arith))
+    low false = leb→le _ _ (at (λ i x. leb x (32 * i)) (doyRow false) tt k (omega arith))
+
+-- a table of two rows, indexed by a flag
+pub flag : (b : Bool) → boolByte b < 2
+flag true = omega arith
+flag false = omega arith
+
+pub rows : (r : Bool → List ℕ) (b : Bool) (k : ℕ) → getD (getD (r false ∷ r true ∷ []) (boolByte b) []) k 0 ≡ getD (r b) k 0
+rows r true k = refl
+rows r false k = refl
+
+-- ---- the day of the year
+pub month-end : (d : Date) → 1 ≤ d .month → sumTo (monthRow (isLeap (d .year))) (d .month) ≡ sumTo (monthRow (isLeap (d .year))) (d .month - 1) + monthLength (d .year) (d .month)
+unfolding monthLength
+month-end d h =
+    let row = monthRow (isLeap (d .year)) in
+    let e : sumTo row (d .month) ≡ sumTo row (suc (d .month - 1)) = ap (sumTo row) (omega arith) in
+    e ∙ sum-suc row (d .month - 1)
+
+pub day-of-year-end : (d : Date) → Valid d → dayOfYear d < yearLength (isLeap (d .year))
+unfolding dayOfYear
+day-of-year-end d v =
+    let row = monthRow (isLeap (d .year)) in
+    omega (arith, month-end d (v .month-from), v .day-to, v .day-from, sum-grows row (d .month) 12 (v .month-to), year-sum (isLeap (d .year)))
+
+-- the month, counted from 0, that a search for a day of the year stops at
+pub month-found : (year : ℤ) (n k : ℕ) → k < 12 → sumTo (monthRow (isLeap year)) k ≤ n → n < sumTo (monthRow (isLeap year)) (suc k) → InYear year n (k + 1) (n - sumTo (monthRow (isLeap year)) k + 1)
+unfolding monthLength dayOfYear
+month-found year n k h p q =
+    let row = monthRow (isLeap year) in
+    let e : k + 1 - 1 ≡ k = omega arith in
+    let l : getD row (k + 1 - 1) 0 ≡ getD row k 0 = ap (λ m. getD row m 0) e in
+    let s : sumTo row (k + 1 - 1) ≡ sumTo row k = ap (sumTo row) e in
+    record { valid = record { month-from = omega arith; month-to = omega arith; day-from = omega arith; day-to = omega (arith, sum-suc row k) }; is = omega arith }

@@ -1,0 +1,3 @@
+pub mod Walk
+pub mod Closed
+pub mod Moments

@@ -1,0 +1,232 @@
+// The calendar: dates from counts and counts from dates. The names are those of date_time.rs in the Rust.
+use integers::Checked;
+use integers::Parts;
+use integers::add_parts;
+use integers::floor_join;
+use integers::floor_split;
+use integers::sub_parts;
+ghost use mathlib.Core.Path.{_≡_};
+ghost use Prim.Native.Nat.{_≤_, _<_};
+ghost use lib.IntN.{natAbs, pos, _+ℤ_, _-ℤ_, _*ℤ_};
+ghost use Rattle.integers.specs.Integers.{checked};
+ghost use Rattle.calendar.specs.Walk.{isLeap, monthRow, monthLength, Valid, date, walk};
+ghost use Rattle.calendar.specs.Closed.{yearLength, yearStart, sumTo, dayOfYear, dayNumber, InCycle, InYear};
+ghost use Rattle.calendar.specs.Moments.{timeAt, momentAt, ValidTime, secondOfDay, secondsOf};
+
+pub struct Date {
+    pub year: i64,
+    pub month: u8,
+    pub day: u8,
+}
+
+pub struct Time {
+    pub hour: u8,
+    pub minute: u8,
+    pub second: u8,
+}
+
+pub struct Moment {
+    pub date: Date,
+    pub time: Time,
+}
+
+// The month lengths, in common years and in leap years.
+const DAYS_IN_MONTH: [[u8; 12]; 2] = [
+    [31, 28, 31, 30, 31, 30, 31, 31, 30, 31, 30, 31],
+    [31, 29, 31, 30, 31, 30, 31, 31, 30, 31, 30, 31],
+];
+
+// The days of the year before each month, and all of them.
+const DOY_AT_MONTH: [[u32; 13]; 2] = [
+    [0, 31, 59, 90, 120, 151, 181, 212, 243, 273, 304, 334, 365],
+    [0, 31, 60, 91, 121, 152, 182, 213, 244, 274, 305, 335, 366],
+];
+
+// The seconds of 400 years.
+const CYCLE_SECS: u64 = 12622780800;
+
+pub fn is_leap(year: i64) -> bool
+    ensures { λ r. ⌜ r ≡ isLeap year ⌝ }
+{
+    year % 4 == 0 && (year % 100 != 0 || year % 400 == 0)
+}
+
+pub fn days_in_month(year: i64, month: u8) -> u8
+    requires { ⌜ (1 ≤ month) × (month ≤ 12) ⌝ }
+    ensures { λ r. ⌜ r ≡ monthLength year month ⌝ }
+{
+    let leap = is_leap(year) as usize;
+    let index = (month - 1) as usize;
+    DAYS_IN_MONTH[leap][index]
+}
+
+// The days of a year before a month that is counted from 0.
+fn doy_at_month(leap: bool, index: usize) -> u32
+    requires { ⌜ index ≤ 12 ⌝ }
+    ensures { λ r. ⌜ r ≡ sumTo (monthRow leap) index ⌝ }
+{
+    let row = leap as usize;
+    DOY_AT_MONTH[row][index]
+}
+
+// The day of the year, from 0.
+pub fn day_of_year(d: Date) -> u32
+    requires { ⌜ Valid d ⌝ }
+    ensures { λ r. ⌜ r ≡ dayOfYear d ⌝ }
+{
+    doy_at_month(is_leap(d.year), (d.month - 1) as usize) + (d.day - 1) as u32
+}
+
+pub struct MonthDay {
+    pub month: u8,
+    pub day: u8,
+}
+
+// The month and the day of the month of a day of the year, from 0. A month has fewer than 32 days, so the search starts at doy / 32.
+pub fn month_and_day_of_month(year: i64, doy: u32) -> MonthDay
+    requires { ⌜ doy < yearLength (isLeap year) ⌝ }
+    ensures { λ r. ⌜ InYear year doy (r .month) (r .day) ⌝ }
+{
+    let leap = is_leap(year);
+    let mut index = (doy / 32) as usize;
+    while doy_at_month(leap, index + 1) <= doy {
+        index += 1;
+    }
+    MonthDay {
+        month: index as u8 + 1,
+        day: (doy - doy_at_month(leap, index)) as u8 + 1,
+    }
+}
+
+// The days from the first day of year 0 to that of the year. The quotients of a year below 0 round toward zero.
+pub fn days_from_year_0(year: i64) -> i64
+    requires { ⌜ natAbs year ≤ 1_000_000_000_000 ⌝ }
+    ensures { λ r. ⌜ r ≡ yearStart year ⌝ }
+{
+    let offset = (year > 0) as i64;
+    let y = year - offset;
+    let m4 = y / 4 + offset;
+    let m100 = y / 100;
+    let m400 = m100 / 4;
+    year * 365 + m4 - m100 + m400
+}
+
+// A year of the 400-year cycle, and the day of that year, from 0.
+pub struct YearDay {
+    pub year: u32,
+    pub day: u32,
+}
+
+// The 100, 4 and 1-year steps. The last always ends the search.
+pub fn year_in_cycle(day: u32) -> YearDay
+    requires { ⌜ day < 146097 ⌝ }
+    ensures { λ r. ⌜ InCycle day (r .year) (r .day) ⌝ }
+{
+    if day < 366 {
+        return YearDay { year: 0, day };
+    }
+    // Every century but the cycle's first starts with a common year.
+    let n100 = (day - 1) / 36524;
+    let day = day - 1 - n100 * 36524;
+    if day < 365 {
+        return YearDay {
+            year: n100 * 100,
+            day,
+        };
+    }
+    // Four years start with a leap year, but for the first four of such a century.
+    let n4 = (day + 1) / 1461;
+    let day = day + 1 - n4 * 1461;
+    if day < 366 {
+        return YearDay {
+            year: n100 * 100 + n4 * 4,
+            day,
+        };
+    }
+    let n1 = (day - 1) / 365;
+    YearDay {
+        year: n100 * 100 + n4 * 4 + n1,
+        day: day - 1 - n1 * 365,
+    }
+}
+
+// The date of a day of a cycle; cycle 0 starts with year 0.
+fn date_in_cycle(cycle: i64, day: u32) -> Date
+    requires { ⌜ (natAbs cycle ≤ 10_000_000_000) × (day < 146097) ⌝ }
+    ensures { λ r. ⌜ r ≡ walk (cycle *ℤ pos 146097 +ℤ pos day -ℤ pos 719528) ⌝ }
+{
+    let found = year_in_cycle(day);
+    let year = cycle * 400 + found.year as i64;
+    let within = month_and_day_of_month(year, found.day);
+    Date {
+        year,
+        month: within.month,
+        day: within.day,
+    }
+}
+
+fn time_at(second: u32) -> Time
+    requires { ⌜ second < 86400 ⌝ }
+    ensures { λ r. ⌜ r ≡ timeAt second ⌝ }
+{
+    Time {
+        hour: (second / 3600) as u8,
+        minute: (second / 60 % 60) as u8,
+        second: (second % 60) as u8,
+    }
+}
+
+// The moment at seconds plus epoch. The sum need not fit: each addend is split into cycles, and the parts are added.
+pub fn secs_to_date_time(seconds: i64, epoch: i64) -> Moment
+    ensures { λ r. ⌜ r ≡ momentAt (seconds +ℤ epoch) ⌝ }
+{
+    let sum = add_parts(
+        floor_split(seconds, CYCLE_SECS),
+        floor_split(epoch, CYCLE_SECS),
+        CYCLE_SECS,
+    );
+    // 1970 starts 62,167,219,200 seconds after year 0: four cycles, and the rest.
+    let from_year_0 = add_parts(
+        sum,
+        Parts {
+            quotient: 4,
+            rest: 11676096000,
+        },
+        CYCLE_SECS,
+    );
+    let date = date_in_cycle(from_year_0.quotient, (from_year_0.rest / 86400) as u32);
+    let time = time_at((from_year_0.rest % 86400) as u32);
+    Moment { date, time }
+}
+
+// The day on which the walk reaches the date.
+pub fn day_of_date(d: Date) -> i64
+    requires { ⌜ (natAbs (d .year) ≤ 1_000_000_000_000) × Valid d ⌝ }
+    ensures { λ r. ⌜ r ≡ dayNumber d ⌝ }
+{
+    days_from_year_0(d.year) + day_of_year(d) as i64 - 719528
+}
+
+fn second_of_day(t: Time) -> u64
+    requires { ⌜ ValidTime t ⌝ }
+    ensures { λ r. ⌜ r ≡ secondOfDay t ⌝ }
+{
+    t.hour as u64 * 3600 + t.minute as u64 * 60 + t.second as u64
+}
+
+// The count of a moment over an epoch, decided on the exact sum: the moment's own seconds need not fit.
+pub fn date_time_to_secs(m: Moment, epoch: i64) -> Checked
+    requires { ⌜ (natAbs (m .date .year) ≤ 1_000_000_000_000) × Valid (m .date) × ValidTime (m .time) ⌝ }
+    ensures { λ r. ⌜ r ≡ checked (secondsOf m -ℤ epoch) ⌝ }
+{
+    let date = m.date;
+    let time = m.time;
+    let from_1970 = Parts {
+        quotient: day_of_date(date),
+        rest: second_of_day(time),
+    };
+    floor_join(
+        sub_parts(from_1970, floor_split(epoch, 86400), 86400),
+        86400,
+    )
+}
