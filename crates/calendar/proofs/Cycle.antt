@@ -1,13 +1,16 @@
--- Years within the cycle: year 100 a + 4 b + c, as the steps find it.
-use mathlib.Core.Path.{_≡_, ap, _∙_}
+-- The 400-year cycle: its years 100 a + 4 b + c, as the steps find them, and that the walk has it.
+use mathlib.Core.Path.{_≡_, refl, sym, ap, _∙_}
+use mathlib.Core.Bool.{Bool, true, false}
 use Prim.Native.Nat.{ℕ, suc, _+_, _*_, _-_, _/_, _≤_, _<_, min}
 use native.Mathlib.Omega.{arith}
-use lib.IntN.{ℤ, pos, _+ℤ_, _-ℤ_, _*ℤ_}
+use lib.ListN.{getD}
+use Rattle.integers.specs.Integers.{floorDiv}
+use lib.IntN.{ℤ, pos, negsuc, _+ℤ_, _-ℤ_, _*ℤ_}
 use Rattle.integers.proofs.Signed.{plus, minus, eqZ, add-law, diff-law}
-use Rattle.calendar.specs.Walk.{isLeap, date, walk}
-use Rattle.calendar.specs.Closed.{yearLength, yearStart, dayOfYear, dayNumber, InCycle, InYear}
+use Rattle.calendar.specs.Walk.{divides, isLeap, monthRow, monthLength, date, walk}
+use Rattle.calendar.specs.Closed.{yearLength, leapYears, yearStart, sumTo, dayOfYear, dayNumber, InCycle, InYear}
 use Rattle.calendar.proofs.Years.{startUp, start-up, start-up-suc, some-length, length-cycle, year-start-cycle}
-use Rattle.calendar.proofs.Walk.{reads}
+use Rattle.calendar.proofs.Walk.{walk-valid, day-walk, reads}
 
 module _ (a b c : ℕ) (a₃ : a ≤ 3) (b₂₄ : b ≤ 24) (c₃ : c ≤ 3) where
   fours : (a * 100 + b * 4 + c + 3) / 4 ≡ 25 * a + b + min 1 c
@@ -63,3 +66,35 @@ module _ (c : ℤ) (n y d : ℕ) (i : InCycle n y d) where
       reads (date z m e) _ (j .valid)
       (eqZ _ _
       (omega (arith, j .is, ap plus (i .is), ap minus (i .is), add-law (yearStart (pos y)) (pos d), ap plus s, ap minus s, add-law x (yearStart (pos y)), add-law (yearStart z) (pos k), diff-law (yearStart z +ℤ pos k) (pos 719528), add-law x (pos n), diff-law (x +ℤ pos n) (pos 719528))))
+
+-- ---- the cycle and year 0, of the walk alone
+same-flag : (a b : Bool) → yearLength a ≡ yearLength b → a ≡ b
+unfolding yearLength
+same-flag true true e = refl
+same-flag true false e = absurd (omega arith)
+same-flag false true e = absurd (omega arith)
+same-flag false false e = refl
+
+-- 146,097 DAYS LATER THE WALK IS AT THE SAME DAY OF THE YEAR, 400 YEARS ON
+pub walk-cycle : (n : ℤ) → walk (n +ℤ pos 146097) ≡ date (pos 400 +ℤ walk n .year) (walk n .month) (walk n .day)
+unfolding dayNumber dayOfYear monthLength
+walk-cycle n =
+    let d = walk n in
+    let v = walk-valid n in
+    let y = d .year in
+    let z = pos 400 +ℤ y in
+    let l : isLeap z ≡ isLeap y = same-flag _ _ (length-cycle (pos 1) y) in
+    let m : monthLength z (d .month) ≡ monthLength y (d .month) = ap (λ b. getD (monthRow b) (d .month - 1) 0) l in
+    let k : dayOfYear (date z (d .month) (d .day)) ≡ dayOfYear d = ap (λ b. sumTo (monthRow b) (d .month - 1) + (d .day - 1)) l in
+    let s : yearStart z ≡ pos 146097 +ℤ yearStart y = year-start-cycle (pos 1) y in
+    let e = day-walk n in
+    let a = dayOfYear d in
+    let b = dayOfYear (date z (d .month) (d .day)) in
+    sym (reads (date z (d .month) (d .day)) (n +ℤ pos 146097) (record { month-from = v .month-from; month-to = v .month-to; day-from = v .day-from; day-to = omega (arith, v .day-to) })
+    (eqZ _ _
+    (omega (arith, ap plus s, ap minus s, ap plus e, ap minus e, add-law (pos 146097) (yearStart y), add-law (yearStart y) (pos a), diff-law (yearStart y +ℤ pos a) (pos 719528), add-law (yearStart z) (pos b), diff-law (yearStart z +ℤ pos b) (pos 719528), add-law n (pos 146097)))))
+
+-- FROM YEAR 0 TO 1970 ARE 719,528 DAYS
+pub walk-to-year-0 : walk (negsuc 719527) ≡ date (pos 0) 1 1
+unfolding dayNumber dayOfYear monthLength monthRow isLeap divides yearStart leapYears floorDiv sumTo
+walk-to-year-0 = sym (reads (date (pos 0) 1 1) (negsuc 719527) (record { month-from = omega arith; month-to = omega arith; day-from = omega arith; day-to = omega arith }) refl)

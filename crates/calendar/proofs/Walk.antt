@@ -4,7 +4,7 @@ use mathlib.Core.Bool.{Bool, true, false, cond}
 use mathlib.Core.List.{List}
 use Prim.Native.Nat.{ℕ, zero, suc, _+_, _-_, _≤_, _<_}
 use native.Mathlib.Omega.{arith}
-use lib.Dec.{ltb}
+use lib.Dec.{ltb, leb→le}
 use lib.IntN.{ℤ, pos, negsuc, sucℤ, predℤ, suc-pred, pred-suc, _+ℤ_}
 use lib.Signed.{_<ℤ_}
 use borrow.Author.Tests.{ltb-true, ltb-false}
@@ -96,8 +96,8 @@ next-prev d v =
 
 -- ---- the walk stays valid
 start-valid : Valid start
-unfolding start
-start-valid = record { month-from = omega arith; month-to = omega arith; day-from = omega arith; day-to = length-some (pos 1970) 1 (omega arith) (omega arith) }
+unfolding start monthLength monthRow isLeap divides
+start-valid = record { month-from = omega arith; month-to = omega arith; day-from = omega arith; day-to = leb→le (start .day) (monthLength (start .year) (start .month)) tt }
 
 pub walk-valid : (n : ℤ) → Valid (walk n)
 unfolding walk
