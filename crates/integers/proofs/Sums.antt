@@ -1,6 +1,6 @@
 -- What a checked result is, from facts that `omega` proves.
-use mathlib.Core.Path.{_≡_, ap, sym, _∙_}
-use mathlib.Core.Bool.{cond, true, false}
+use mathlib.Core.Path.{_≡_, refl, ap, sym, _∙_}
+use mathlib.Core.Bool.{Bool, cond, true, false}
 use mathlib.Core.Logic.{_↔_}
 use Prim.Native.Nat.{ℕ, suc, _+_, _-_, _*_, _/_, _^_, _<_, _≤_, max}
 use native.Mathlib.Decide.{decLe}
@@ -20,12 +20,12 @@ use Rattle.integers.proofs.Signed.{plus, minus, eqZ}
 abbrev pub Beyond : ℕ → ℕ → Type 0
 Beyond p m = 2 ^ 63 < max (suc p - m) (m - p)
 
-inside : (z : ℤ) → SFits w64 z → isI64 z ≡ true
+pub inside : (z : ℤ) → SFits w64 z → isI64 z ≡ true
 unfolding isI64
 inside (pos n) f = lt-ltb n (2 ^ 63) (f .sfits)
 inside (negsuc n) f = lt-ltb n (2 ^ 63) (f .sfits)
 
-outside : (z : ℤ) → Beyond (plus z) (minus z) → isI64 z ≡ false
+pub outside : (z : ℤ) → Beyond (plus z) (minus z) → isI64 z ≡ false
 unfolding isI64
 outside (pos n) h = le-ltb n (2 ^ 63) (omega arith)
 outside (negsuc n) h = le-ltb n (2 ^ 63) (omega arith)
@@ -58,3 +58,20 @@ below-top n k r h l = go (decLe (n * k) (9223372036854775807 - r))
     go : Dec (n * k ≤ 9223372036854775807 - r) → leb n ((9223372036854775807 - r) / k) ≡ ltb (n * k + r) (2 ^ 63)
     go (yes p) = le-leb _ _ (d .1 p) ∙ sym (lt-ltb (n * k + r) (2 ^ 63) (omega arith))
     go (no p) = lt-leb _ _ (lt-of-not-le (λ x. p (d .0 x))) ∙ sym (le-ltb (n * k + r) (2 ^ 63) (omega arith))
+
+-- what a checked result tells of the exact one
+pub exact-tells : {x : ℤ} (z : ℤ) → Exact x ≡ checked z → (isI64 z ≡ true) × (x ≡ z)
+unfolding checked
+exact-tells {x} z e = go (isI64 z) refl e
+  where
+    go : (b : Bool) → isI64 z ≡ b → Exact x ≡ cond b (Exact z) Outside → (isI64 z ≡ true) × (x ≡ z)
+    go true p q = (p, cc)
+    go false p q = let n : _≡_ {A = ℕ} 0 1 = cc in absurd (omega arith)
+
+pub outside-tells : (z : ℤ) → Outside ≡ checked z → isI64 z ≡ false
+unfolding checked
+outside-tells z e = go (isI64 z) refl e
+  where
+    go : (b : Bool) → isI64 z ≡ b → Outside ≡ cond b (Exact z) Outside → isI64 z ≡ false
+    go true p q = let n : _≡_ {A = ℕ} 0 1 = cc in absurd (omega arith)
+    go false p q = p

@@ -1,0 +1,80 @@
+-- `counts::add`: a wrapped sum below the old seconds is one turn off, any other is exact (`added`).
+use Prim.Native.Nat.{_+_, _*_}
+use native.Mathlib.Omega.{arith}
+use lib.IntN.{pos, _+ℤ_}
+use borrow.Author.Needs.{needs}
+use Rattle.integers.proofs.Signed.{Is, plus, minus}
+use Rattle.counts.specs.Counts.{exact}
+use Rattle.integers.proofs.Machine.{signed, known}
+use Rattle.integers.proofs.Wrapped.{Added, added}
+use Rattle.counts.specs.Counts as Counts
+use Rattle.counts.proofs.Checks.{bad, good}
+use Rattle.counts.proofs.Nanos.{sum-law, time-at, time-none}
+use Rattle.counts.proofs.durations.add.Statement.{statement}
+use Rattle.counts.proofs.durations.add.Tie as tie
+
+facts : (k : tie.After-wrapping-add-unsigned) → let a = k .before .before .before .args in Added (a .secs) (a .dsecs) (k .wrapping-add-unsigned .result)
+facts k = added (k .before .before .before .fits .secs) (search needs) (k .wrapping-add-unsigned .ensures)
+
+law : (s : tie.Start) → let a = s .args in Is (exact (a .secs) (a .nanos) +ℤ exact (pos (a .dsecs)) (a .dnanos)) (plus (a .secs) * 1000000000 + a .nanos + a .dsecs * 1000000000 + a .dnanos) (minus (a .secs) * 1000000000)
+law s = sum-law (s .args .secs) (s .args .nanos) (s .args .dsecs) (s .args .dnanos)
+
+returns : tie.Need-returns
+unfolding Counts.added
+returns c = rw (bad (c .before .args .nanos) (c .if1 .taken))
+
+returns-2 : tie.Need-returns-2
+unfolding Counts.added
+returns-2 c = rw (good (c .before .before .args .nanos) (omega arith), bad (c .before .before .args .dnanos) (c .if2 .taken))
+
+wrapping-add-unsigned-requires : tie.Need-wrapping-add-unsigned-requires
+wrapping-add-unsigned-requires c κs = search needs
+
+returns-3 : tie.Need-returns-3
+unfolding Counts.added
+returns-3 c = let l = law (search) in
+    let m = facts (search) in
+    let n = m .wraps (omega (arith, signed)) in
+    rw (good (c .before .before .before .before .args .nanos) (omega arith), good (c .before .before .before .before .args .dnanos) (omega arith)) (time-none _ (omega (arith, signed)))
+
+add-total : tie.Need-add-total
+add-total c = search needs
+
+returns-4 : tie.Need-returns-4
+unfolding Counts.added
+returns-4 c = let l = law (search) in
+    let m = facts (search) in
+    let n = m .stays (omega (arith, signed)) in
+    rw (good (c .before .before .before .before .before .args .nanos) (omega arith), good (c .before .before .before .before .before .args .dnanos) (omega arith)) (time-at _ (omega (arith, signed)) (omega arith) (omega (arith, signed)))
+
+add-t11 : tie.Need-add-t11
+add-t11 c = omega (arith, signed, facts (search))
+
+returns-5 : tie.Need-returns-5
+unfolding Counts.added
+returns-5 c = let l = law (search) in
+    let m = facts (search) in
+    let n = m .stays (omega (arith, signed)) in
+    let o = known (add-t11 c) in
+    rw (good (c .before .before .before .before .before .before .args .nanos) (omega arith), good (c .before .before .before .before .before .before .args .dnanos) (omega arith)) (time-at _ (omega (arith, signed)) (omega arith) (omega (arith, signed)))
+
+returns-6 : tie.Need-returns-6
+unfolding Counts.added
+returns-6 c = let l = law (search) in
+    let m = facts (search) in
+    let n = m .stays (omega (arith, signed)) in
+    rw (good (c .before .before .before .before .before .before .args .nanos) (omega arith), good (c .before .before .before .before .before .before .args .dnanos) (omega arith)) (time-none _ (omega (arith, signed)))
+
+pub add-spec : {M : Type 1} → statement M
+add-spec =
+    tie.close
+    (tie.spec
+    returns
+    returns-2
+    wrapping-add-unsigned-requires
+    returns-3
+    add-total
+    returns-4
+    add-t11
+    returns-5
+    returns-6)

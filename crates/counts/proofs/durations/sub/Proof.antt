@@ -1,0 +1,84 @@
+-- `counts::sub`: a wrapped difference above the old seconds is one turn off, any other is exact (`taken`).
+use Prim.Native.Nat.{_+_, _*_}
+use native.Mathlib.Omega.{arith}
+use lib.IntN.{pos, _-ℤ_}
+use borrow.Author.Needs.{needs}
+use Rattle.integers.proofs.Signed.{Is, plus, minus}
+use Rattle.counts.specs.Counts.{exact}
+use Rattle.integers.proofs.Machine.{signed, known}
+use Rattle.integers.proofs.Wrapped.{Taken, taken}
+use Rattle.counts.specs.Counts as Counts
+use Rattle.counts.proofs.Checks.{bad, good}
+use Rattle.counts.proofs.Nanos.{difference-law, time-at, time-none}
+use Rattle.counts.proofs.durations.sub.Statement.{statement}
+use Rattle.counts.proofs.durations.sub.Tie as tie
+
+facts : (k : tie.After-wrapping-sub-unsigned) → let a = k .before .before .before .args in Taken (a .secs) (a .dsecs) (k .wrapping-sub-unsigned .result)
+facts k = taken (k .before .before .before .fits .secs) (search needs) (k .wrapping-sub-unsigned .ensures)
+
+law : (s : tie.Start) → let a = s .args in Is (exact (a .secs) (a .nanos) -ℤ exact (pos (a .dsecs)) (a .dnanos)) (plus (a .secs) * 1000000000 + a .nanos + minus (pos (a .dsecs)) * 1000000000) (minus (a .secs) * 1000000000 + plus (pos (a .dsecs)) * 1000000000 + a .dnanos)
+law s = difference-law (s .args .secs) (s .args .nanos) (pos (s .args .dsecs)) (s .args .dnanos)
+
+returns : tie.Need-returns
+unfolding Counts.taken
+returns c = rw (bad (c .before .args .nanos) (c .if1 .taken))
+
+returns-2 : tie.Need-returns-2
+unfolding Counts.taken
+returns-2 c = rw (good (c .before .before .args .nanos) (omega arith), bad (c .before .before .args .dnanos) (c .if2 .taken))
+
+wrapping-sub-unsigned-requires : tie.Need-wrapping-sub-unsigned-requires
+wrapping-sub-unsigned-requires c κs = search needs
+
+returns-3 : tie.Need-returns-3
+unfolding Counts.taken
+returns-3 c = let l = law (search) in
+    let m = facts (search) in
+    let n = m .wraps (omega (arith, signed)) in
+    rw (good (c .before .before .before .before .args .nanos) (omega arith), good (c .before .before .before .before .args .dnanos) (omega arith)) (time-none _ (omega (arith, signed)))
+
+returns-4 : tie.Need-returns-4
+unfolding Counts.taken
+returns-4 c = let l = law (search) in
+    let m = facts (search) in
+    let n = m .stays (omega (arith, signed)) in
+    rw (good (c .before .before .before .before .before .args .nanos) (omega arith), good (c .before .before .before .before .before .args .dnanos) (omega arith)) (time-at _ (omega (arith, signed)) (omega arith) (omega (arith, signed)))
+
+sub-t11 : tie.Need-sub-t11
+sub-t11 c = omega (arith, signed, facts (search))
+
+add-t12 : tie.Need-add-t12
+add-t12 c = search needs
+
+sub-t13 : tie.Need-sub-t13
+sub-t13 c = search needs
+
+returns-5 : tie.Need-returns-5
+unfolding Counts.taken
+returns-5 c = let l = law (search) in
+    let m = facts (search) in
+    let n = m .stays (omega (arith, signed)) in
+    let o = known (sub-t11 c) in
+    rw (good (c .before .before .before .before .before .before .args .nanos) (omega arith), good (c .before .before .before .before .before .before .args .dnanos) (omega arith)) (time-at _ (omega (arith, signed)) (omega arith) (omega (arith, signed)))
+
+returns-6 : tie.Need-returns-6
+unfolding Counts.taken
+returns-6 c = let l = law (search) in
+    let m = facts (search) in
+    let n = m .stays (omega (arith, signed)) in
+    rw (good (c .before .before .before .before .before .before .args .nanos) (omega arith), good (c .before .before .before .before .before .before .args .dnanos) (omega arith)) (time-none _ (omega (arith, signed)))
+
+pub sub-spec : {M : Type 1} → statement M
+sub-spec =
+    tie.close
+    (tie.spec
+    returns
+    returns-2
+    wrapping-sub-unsigned-requires
+    returns-3
+    returns-4
+    sub-t11
+    add-t12
+    sub-t13
+    returns-5
+    returns-6)

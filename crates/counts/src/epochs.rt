@@ -1,0 +1,60 @@
+// Counts from one reference to another. Each partial sum must be an i64, as in the Rust.
+use crate::Counted;
+use crate::UnixAnswer;
+use crate::UnixSeconds;
+use errors::CountError;
+use integers::Checked;
+use integers::checked_add;
+use integers::checked_sub;
+ghost use mathlib.Core.Path.{_≡_};
+ghost use Rattle.counts.specs.Said.{saidCounted, saidUnix};
+ghost use Rattle.counts.specs.Counts.{fromUnix, toUnix, overEpoch};
+
+// Unix to timestamp: + carry, + leap, - epoch.
+pub fn from_unix(epoch: i64, unix: i64, nanos: u32, leap: i64) -> Counted
+    ensures { λ r. ⌜ saidCounted r ≡ fromUnix epoch unix nanos leap ⌝ }
+{
+    let carry = (nanos / 1000000000) as i64;
+    let Checked::Exact(carried) = checked_add(unix, carry) else {
+        return Counted::Refused(CountError::NotRepresentable);
+    };
+    let Checked::Exact(atomic) = checked_add(carried, leap) else {
+        return Counted::Refused(CountError::NotRepresentable);
+    };
+    let Checked::Exact(secs) = checked_sub(atomic, epoch) else {
+        return Counted::Refused(CountError::NotRepresentable);
+    };
+    Counted::At(secs, nanos % 1000000000)
+}
+
+// Timestamp to Unix: - leap, + epoch.
+pub fn to_unix(epoch: i64, secs: i64, nanos: u32, leap: i64) -> UnixAnswer
+    ensures { λ r. ⌜ saidUnix r ≡ toUnix epoch secs nanos leap ⌝ }
+{
+    if 999999999 < nanos {
+        return UnixAnswer::Refused(CountError::BadNanos);
+    }
+    let Checked::Exact(universal) = checked_sub(secs, leap) else {
+        return UnixAnswer::Refused(CountError::NotRepresentable);
+    };
+    let Checked::Exact(unix) = checked_add(universal, epoch) else {
+        return UnixAnswer::Refused(CountError::NotRepresentable);
+    };
+    UnixAnswer::At(UnixSeconds(unix))
+}
+
+// Change of epoch: old - new, + seconds.
+pub fn over_epoch(old: i64, new: i64, secs: i64, nanos: u32) -> Counted
+    ensures { λ r. ⌜ saidCounted r ≡ overEpoch old new secs nanos ⌝ }
+{
+    if 999999999 < nanos {
+        return Counted::Refused(CountError::BadNanos);
+    }
+    let Checked::Exact(between) = checked_sub(old, new) else {
+        return Counted::Refused(CountError::NotRepresentable);
+    };
+    let Checked::Exact(moved) = checked_add(between, secs) else {
+        return Counted::Refused(CountError::NotRepresentable);
+    };
+    Counted::At(moved, nanos)
+}

@@ -1,0 +1,185 @@
+// Timestamps, durations, and every entry on their counts. The names are those of lib.rs in the Rust.
+use errors::CountError;
+use errors::DateTimeError;
+ghost use mathlib.Core.Path.{_≡_};
+ghost use Rattle.counts.specs.Said.{saidCounted, saidTime, saidDateTime, saidUnix, saidDuration, saidOrdering};
+ghost use Rattle.counts.specs.Counts.{newTime, fromDateTime, fromUnix, toUnix, overEpoch, added, taken, since, compared};
+
+mod dates;
+mod durations;
+mod epochs;
+
+// A reference that seconds count from, in seconds from 1970-01-01 00:00:00 TAI.
+pub struct Epoch(pub i64);
+
+// TAI minus UTC, in seconds.
+pub struct LeapOffset(pub i64);
+
+// A count of Unix seconds.
+pub struct UnixSeconds(pub i64);
+
+// Seconds from an epoch, and nanoseconds that count forward from there.
+pub struct TaiTime {
+    pub secs: i64,
+    pub nanos: u32,
+}
+
+pub struct Duration {
+    pub secs: u64,
+    pub nanos: u32,
+}
+
+impl Epoch {
+    pub const MONOTONIC_TIME: Epoch = Epoch(0);
+
+    pub const GPS_TIME: Epoch = Epoch(315964819);
+
+    pub const GST_TIME: Epoch = Epoch(935280019);
+
+    pub const BDT_TIME: Epoch = Epoch(1136073633);
+
+    pub const TAI_1958_TIME: Epoch = Epoch(-378691200);
+
+    pub const TAI_1972_TIME: Epoch = Epoch(63072000);
+}
+
+// Seconds and nanoseconds of a result, or its refusal.
+pub enum Counted {
+    At(i64, u32),
+    Refused(CountError),
+}
+
+// Seconds of calendar fields, or their refusal.
+pub enum SecsAnswer {
+    At(i64),
+    Refused(DateTimeError),
+}
+
+pub enum TimeAnswer {
+    At(TaiTime),
+    Refused(CountError),
+}
+
+pub enum DateTimeAnswer {
+    At(TaiTime),
+    Refused(DateTimeError),
+}
+
+pub enum UnixAnswer {
+    At(UnixSeconds),
+    Refused(CountError),
+}
+
+pub enum DurationAnswer {
+    Lasts(Duration),
+    Refused(CountError),
+}
+
+pub enum Ordering {
+    Less,
+    Equal,
+    Greater,
+}
+
+pub enum OrderingAnswer {
+    Is(Ordering),
+    Refused(CountError),
+}
+
+// A result as a timestamp.
+fn time_answer(c: Counted) -> TimeAnswer
+    ensures { λ r. ⌜ saidTime r ≡ saidCounted c ⌝ }
+{
+    match c {
+        Counted::At(secs, nanos) => TimeAnswer::At(TaiTime { secs, nanos }),
+        Counted::Refused(e) => TimeAnswer::Refused(e),
+    }
+}
+
+impl TaiTime {
+    pub const EPOCH: TaiTime = TaiTime { secs: 0, nanos: 0 };
+
+    pub const MIN: TaiTime = TaiTime {
+        secs: -9223372036854775808,
+        nanos: 0,
+    };
+
+    pub const MAX: TaiTime = TaiTime {
+        secs: 9223372036854775807,
+        nanos: 999999999,
+    };
+
+    pub fn new(secs: i64, nanos: u32) -> TimeAnswer
+        ensures { λ r. ⌜ saidTime r ≡ newTime secs nanos ⌝ }
+    {
+        if 999999999 < nanos {
+            return TimeAnswer::Refused(CountError::BadNanos);
+        }
+        TimeAnswer::At(TaiTime { secs, nanos })
+    }
+
+    pub fn try_from_date_time(
+        epoch: Epoch,
+        year: i32,
+        month: u8,
+        day: u8,
+        hour: u8,
+        min: u8,
+        sec: u8,
+        nano: u32,
+    ) -> DateTimeAnswer
+        ensures { λ r. ⌜ saidDateTime r ≡ fromDateTime (epoch .0) year month day hour min sec nano ⌝ }
+    {
+        match dates::date_time_secs(epoch.0, year as i64, month, day, hour, min, sec, nano) {
+            SecsAnswer::At(secs) => DateTimeAnswer::At(TaiTime { secs, nanos: nano }),
+            SecsAnswer::Refused(e) => DateTimeAnswer::Refused(e),
+        }
+    }
+
+    pub fn try_from_unix_timestamp(
+        epoch: Epoch,
+        secs: UnixSeconds,
+        nanos: u32,
+        leap: LeapOffset,
+    ) -> TimeAnswer
+        ensures { λ r. ⌜ saidTime r ≡ fromUnix (epoch .0) (secs .0) nanos (leap .0) ⌝ }
+    {
+        time_answer(epochs::from_unix(epoch.0, secs.0, nanos, leap.0))
+    }
+
+    pub fn as_unix_secs(self, epoch: Epoch, leap: LeapOffset) -> UnixAnswer
+        ensures { λ r. ⌜ saidUnix r ≡ toUnix (epoch .0) (self .secs) (self .nanos) (leap .0) ⌝ }
+    {
+        epochs::to_unix(epoch.0, self.secs, self.nanos, leap.0)
+    }
+
+    pub fn to_tai_time(self, old: Epoch, new: Epoch) -> TimeAnswer
+        ensures { λ r. ⌜ saidTime r ≡ overEpoch (old .0) (new .0) (self .secs) (self .nanos) ⌝ }
+    {
+        time_answer(epochs::over_epoch(old.0, new.0, self.secs, self.nanos))
+    }
+
+    pub fn checked_add(self, d: Duration) -> TimeAnswer
+        ensures { λ r. ⌜ saidTime r ≡ added (self .secs) (self .nanos) (d .secs) (d .nanos) ⌝ }
+    {
+        time_answer(durations::add(self.secs, self.nanos, d.secs, d.nanos))
+    }
+
+    pub fn checked_sub(self, d: Duration) -> TimeAnswer
+        ensures { λ r. ⌜ saidTime r ≡ taken (self .secs) (self .nanos) (d .secs) (d .nanos) ⌝ }
+    {
+        time_answer(durations::sub(self.secs, self.nanos, d.secs, d.nanos))
+    }
+
+    pub fn checked_duration_since(self, earlier: TaiTime) -> DurationAnswer
+        ensures { λ r. ⌜ saidDuration r ≡ since (self .secs) (self .nanos) (earlier .secs) (earlier .nanos) ⌝ }
+    {
+        durations::since(self.secs, self.nanos, earlier.secs, earlier.nanos)
+    }
+
+    pub fn cmp(self, other: TaiTime) -> OrderingAnswer
+        ensures { λ r. ⌜ saidOrdering r ≡ compared (self .secs) (self .nanos) (other .secs) (other .nanos) ⌝ }
+    {
+        durations::compare(self.secs, self.nanos, other.secs, other.nanos)
+    }
+}
