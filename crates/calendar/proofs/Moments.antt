@@ -1,11 +1,14 @@
 -- Moments: counts of seconds and moments are one to one, and an earlier count is an earlier moment.
 use mathlib.Core.Path.{_≡_, refl, sym, ap, _∙_}
-use Prim.Native.Nat.{ℕ, _+_, _*_, _/_, _%_, _≤_, _<_}
+use Prim.Native.Nat.{ℕ, _+_, _*_, _/_, _%_, _^_, _≤_, _<_}
 use native.Mathlib.Omega.{arith}
 use lib.IntN.{ℤ, pos, natAbs, _+ℤ_, _-ℤ_, _*ℤ_}
 use lib.Signed.{_<ℤ_}
+use mir.Syntax.{w64}
+use mir.Val.{SFits}
 use Rattle.integers.specs.Integers.{Floor, floorDiv, floorMod}
 use Rattle.integers.proofs.Signed.{apart, size-law, add-law, diff-law, times-law, Tri, before, same, after, tri}
+use Rattle.integers.proofs.Machine.{two}
 use Rattle.integers.proofs.Floor.{floor-law, floor-one, floor-order, splits, to-floor}
 use Rattle.calendar.specs.declared.Date.{Date}
 use Rattle.calendar.specs.declared.Time.{Time}
@@ -13,9 +16,9 @@ use Rattle.calendar.specs.declared.Moment.{Moment}
 use Rattle.calendar.specs.Walk.{isLeap, Valid, walk}
 use Rattle.calendar.specs.Closed.{yearStart, dayOfYear, dayNumber}
 use Rattle.calendar.specs.Moments.{timeAt, momentAt, ValidTime, secondOfDay, secondsOf, EarlierMoment, by-date, by-hour, by-minute, by-second}
-use Rattle.calendar.proofs.Years.{some-length, start-within}
+use Rattle.calendar.proofs.Years.{some-length, start-within, start-far}
 use Rattle.calendar.proofs.Months.{day-of-year-end}
-use Rattle.calendar.proofs.Walk.{walk-valid, day-walk, walk-day, walk-order}
+use Rattle.calendar.proofs.Walk.{day-law, walk-valid, day-walk, walk-day, walk-order}
 
 -- ---- sizes
 pub day-within : (d : Date) → natAbs (d .year) ≤ 1_000_000_000_000 → Valid d → natAbs (dayNumber d) ≤ 500_000_000_000_000
@@ -106,3 +109,20 @@ moment-of {z} d t f e g =
     let p = e ∙ ap walk (o .0) in
     let q = g ∙ ap timeAt (o .1) in
     λ i. record { date = p i; time = q i }
+
+-- ---- the years that two i64's sum can reach
+year-of-day : (d : Date) → Valid d → natAbs (dayNumber d) ≤ 220_000_000_000_000 → natAbs (d .year) < 10 ^ 12
+year-of-day d v h =
+    let y = yearStart (d .year) in
+    let n = dayNumber d in
+    let k : natAbs y ≤ 220_000_001_000_000 = omega (arith, day-law d, day-of-year-end d v, some-length (isLeap (d .year)), size-law y, size-law n, apart y) in
+    omega (arith, start-far (d .year))
+
+pub year-within : (y z : ℤ) → SFits w64 y → SFits w64 z → natAbs (momentAt (y +ℤ z) .date .year) < 10 ^ 12
+unfolding momentAt
+year-within y z f g =
+    let n = floorDiv 86400 (y +ℤ z) in
+    let t = two f g in
+    let o = day-of (y +ℤ z) in
+    let k : natAbs n ≤ 220_000_000_000_000 = omega (arith, splits o, o .small, size-law n, apart n) in
+    year-of-day (walk n) (walk-valid n) (rw (day-walk n) k)

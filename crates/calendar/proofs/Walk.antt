@@ -107,7 +107,7 @@ walk-valid (negsuc zero) = prev-valid start start-valid
 walk-valid (negsuc (suc n)) = prev-valid (walk (negsuc n)) (walk-valid (negsuc n))
 
 -- ---- the day number steps by one
-day-law : (d : Date) → Is (dayNumber d) (plus (yearStart (d .year)) + dayOfYear d) (minus (yearStart (d .year)) + 719528)
+pub day-law : (d : Date) → Is (dayNumber d) (plus (yearStart (d .year)) + dayOfYear d) (minus (yearStart (d .year)) + 719528)
 unfolding dayNumber
 day-law d =
     let y = yearStart (d .year) in

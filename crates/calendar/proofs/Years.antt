@@ -1,7 +1,7 @@
 -- Where a year starts: a year's length after the one before, and 146,097 days after the same year of the cycle before.
 use mathlib.Core.Path.{_≡_, refl, sym, ap, _∙_}
 use mathlib.Core.Bool.{Bool, true, false}
-use Prim.Native.Nat.{ℕ, zero, suc, _+_, _*_, _-_, _/_, _%_, _≤_, _<_}
+use Prim.Native.Nat.{ℕ, zero, suc, _+_, _*_, _-_, _/_, _%_, _≤_, _<_, min}
 use native.Mathlib.Nat.{div-add-mod', mod-lt, zero-div, zero-mul, div-eq-of-lt, div-le-self}
 use native.Mathlib.Omega.{arith}
 use lib.IntN.{ℤ, pos, negsuc, natAbs, negℤ, sucℤ, _+ℤ_, _-ℤ_, _*ℤ_}
@@ -135,3 +135,11 @@ start-within y h =
   where
     within : (z : ℤ) (p m a b c d e f : ℕ) → Is z (p * 365 + a + e + c) (m * 365 + d + b + f) → a ≤ p + 3 → b ≤ p + 99 → c ≤ p + 399 → d ≤ m → e ≤ m → f ≤ m → p + m ≤ 1_000_000_000_000 → natAbs z ≤ 400_000_000_000_000
     within z p m a b c d e f i h₁ h₂ h₃ h₄ h₅ h₆ l = omega (arith, size-law z, apart z)
+
+-- and no year's start is much nearer
+pub start-far : (y : ℤ) → natAbs y * 364 ≤ natAbs (yearStart y) + 800
+start-far y =
+    far (yearStart y) (plus y) (minus y) _ _ _ _ _ _ (start-law y) (div-le-self _ 4) (div-le-self _ 100) (div-le-self _ 400) (div-le-self _ 4) (div-le-self _ 100) (div-le-self _ 400) (apart y) (size-law y)
+  where
+    far : (z : ℤ) (p m a b c d e f : ℕ) {n : ℕ} → Is z (p * 365 + a + e + c) (m * 365 + d + b + f) → a ≤ p + 3 → b ≤ p + 99 → c ≤ p + 399 → d ≤ m → e ≤ m → f ≤ m → min p m ≡ 0 → n ≡ p + m → n * 364 ≤ natAbs z + 800
+    far z p m a b c d e f i h₁ h₂ h₃ h₄ h₅ h₆ o l = omega (arith, size-law z, apart z)

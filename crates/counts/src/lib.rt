@@ -5,7 +5,7 @@ ghost use mathlib.Core.Path.{_≡_};
 ghost use Rattle.counts.specs.Said.{saidCounted, saidTime, saidDateTime, saidUnix, saidDuration, saidOrdering};
 ghost use Rattle.counts.specs.Counts.{newTime, fromDateTime, fromUnix, toUnix, overEpoch, added, taken, since, compared};
 
-mod dates;
+pub mod dates;
 mod durations;
 mod epochs;
 

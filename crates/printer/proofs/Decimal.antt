@@ -1,0 +1,77 @@
+-- Rows of digits: how long they are, where they can be cut, and that they tell the number.
+use mathlib.Core.Path.{_≡_, refl, sym, ap, _∙_}
+use mathlib.Core.List.{List, [], _∷_, _++_, append-assoc, append-nil}
+use Prim.Native.Nat.{ℕ, zero, suc, _+_, _-_, _*_, _/_, _%_, _^_, _<_, _≤_}
+use native.Mathlib.Nat.{pow-suc, pow-succ', pow-zero, div-one, div-div-eq-div-mul, add-suc, add-zero, mul-assoc, div-add-mod'}
+use native.Mathlib.Numerals.{sub-one}
+use native.Mathlib.Omega.{arith}
+use lib.Pow.{pow-add}
+use lib.ListN.{length, set, length-append}
+use lib.Seq.{sets}
+use Rattle.printer.specs.Text.{digits}
+use Rattle.printer.proofs.Stores.{sets-append, sets-set}
+
+pub digits-length : (w n : ℕ) → length (digits w n) ≡ w
+unfolding digits
+digits-length zero n = refl
+digits-length (suc w) n = length-append (digits w (n / 10)) _ ∙ rw (digits-length w (n / 10)) (omega arith)
+
+-- the last digit may be stored first
+pub last-first : (l : List ℕ) (at w n : ℕ) → 0 < w → sets l at (digits w n) ≡ sets (set l (at + (w - 1)) (48 + n % 10)) at (digits (w - 1) (n / 10))
+unfolding digits
+last-first l at zero n h = absurd (omega arith)
+last-first l at (suc w) n h =
+    let e = digits-length w (n / 10) in
+    rw sub-one
+    (sets-append l at (digits w (n / 10)) _ ∙ rw e (sym (sets-set l at (digits w (n / 10)) (at + w) (48 + n % 10) (omega arith))))
+
+-- what a multiple of 10 ^ w adds is not seen in the last w digits
+above : (w q n : ℕ) → digits w (q * 10 ^ w + n) ≡ digits w n
+unfolding digits
+above zero q n = refl
+above (suc w) q n =
+    let x = q * 10 ^ w in
+    let e : q * 10 ^ suc w ≡ x * 10 = rw pow-suc (sym (mul-assoc q (10 ^ w) 10)) in
+    let d : (q * 10 ^ suc w + n) / 10 ≡ x + n / 10 = omega arith in
+    let m : (q * 10 ^ suc w + n) % 10 ≡ n % 10 = omega arith in
+    rw (d, m, above w q (n / 10))
+
+-- the last w digits need no more of n than its last k
+pub digits-low : (w k n : ℕ) → w ≤ k → digits w (n % 10 ^ k) ≡ digits w n
+digits-low w k n h =
+    let q = n / 10 ^ k in
+    let i : k - w + w ≡ k = omega arith in
+    let p : 10 ^ (k - w) * 10 ^ w ≡ 10 ^ k = sym (pow-add 10 (k - w) w) ∙ ap (λ x. 10 ^ x) i in
+    let e : q * 10 ^ (k - w) * 10 ^ w ≡ q * 10 ^ k = mul-assoc q (10 ^ (k - w)) (10 ^ w) ∙ ap (λ x. q * x) p in
+    sym (above w (q * 10 ^ (k - w)) (n % 10 ^ k)) ∙ rw (e, div-add-mod')
+
+behind : (a b n : ℕ) → digits (a + b) n ≡ digits a (n / 10 ^ b) ++ digits b n
+unfolding digits
+behind a zero n = rw (add-zero, pow-zero, div-one, append-nil)
+behind a (suc b) n = rw (add-suc, behind a b (n / 10), div-div-eq-div-mul, pow-succ', append-assoc)
+
+-- the last b digits, and those before them
+pub digits-split : (b w n : ℕ) → b ≤ w → digits w n ≡ digits (w - b) (n / 10 ^ b) ++ digits b (n % 10 ^ b)
+digits-split b w n h =
+    let e : w ≡ w - b + b = omega arith in
+    ap (λ k. digits k n) e ∙ behind (w - b) b n ∙ rw (digits-low b b n (omega arith))
+
+-- the number that digits write, behind a number m that others wrote
+unfoldable pub valueFrom : ℕ → List ℕ → ℕ
+valueFrom m [] = m
+valueFrom m (x ∷ s) = valueFrom (m * 10 + (x - 48)) s
+
+value-append : (m : ℕ) (a b : List ℕ) → valueFrom m (a ++ b) ≡ valueFrom (valueFrom m a) b
+unfolding valueFrom
+value-append m [] b = refl
+value-append m (x ∷ a) b = value-append (m * 10 + (x - 48)) a b
+
+pub digits-value : (w n : ℕ) → n < 10 ^ w → valueFrom 0 (digits w n) ≡ n
+unfolding valueFrom digits
+digits-value zero n h = omega arith
+digits-value (suc w) n h =
+    let p : n < 10 ^ w * 10 = rw pow-suc at h in
+    value-append 0 (digits w (n / 10)) _ ∙ rw (digits-value w (n / 10) (omega arith)) (omega arith)
+
+pub digits-one : (w m n : ℕ) → m < 10 ^ w → n < 10 ^ w → digits w m ≡ digits w n → m ≡ n
+digits-one w m n h k e = sym (digits-value w m h) ∙ ap (valueFrom 0) e ∙ digits-value w n k

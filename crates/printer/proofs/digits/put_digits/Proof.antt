@@ -1,0 +1,65 @@
+-- `printer::digits::put_digits`: what is still to be stored is the digits of what is left of n.
+use mathlib.Core.Path.{_≡_, sym, _∙_}
+use Prim.Native.Nat.{_≤_, _<_, _^_}
+use native.Mathlib.Omega.{arith}
+use lib.ListN.{length, length-set}
+use lib.Seq.{sets}
+use borrow.Author.Needs.{needs}
+use Rattle.printer.specs.Text.{digits}
+use Rattle.printer.proofs.Decimal.{last-first}
+use Rattle.printer.proofs.digits.put_digits.Statement.{statement}
+use Rattle.printer.proofs.digits.put_digits.Tie as tie
+
+abbrev Inv-loop : tie.InvT-loop
+Inv-loop s₀ at width n left₀ m₀ s left m = (left ≤ width) × (m < 2 ^ 30) × (length s ≡ length s₀) × (sets s₀ at (digits width n) ≡ sets s at (digits left m))
+
+abbrev μ-loop : tie.MeasureT-loop
+μ-loop s₀ at width n left₀ m₀ s left m = left
+
+loop-holds : tie.Need-loop-holds Inv-loop μ-loop
+loop-holds c = search needs
+
+sub-left : tie.Need-sub-left Inv-loop μ-loop
+sub-left c = omega arith
+
+split-last-digit-requires : tie.Need-split-last-digit-requires Inv-loop μ-loop
+split-last-digit-requires c κs = omega arith
+
+add-s : tie.Need-add-s Inv-loop μ-loop
+add-s c = omega arith
+
+add-s-2 : tie.Need-add-s-2 Inv-loop μ-loop
+add-s-2 c = omega arith
+
+slice-write-s : tie.Need-slice-write-s Inv-loop μ-loop
+slice-write-s c = omega arith
+
+loop-less : tie.Need-loop-less Inv-loop μ-loop
+loop-less c = omega arith
+
+loop-again : tie.Need-loop-again Inv-loop μ-loop
+loop-again c = (omega arith, omega arith, simp length-set (c .before .before .before .loop .inv .2), c .before .before .before .loop .inv .3 ∙ rw (c .before .split-last-digit .ensures .0, c .before .split-last-digit .ensures .1) (last-first _ _ (c .before .before .before .loop .left) _ (omega arith)))
+
+same-length : tie.Need-same-length Inv-loop μ-loop
+same-length c = c .before .loop .inv .2
+
+returns : tie.Need-returns Inv-loop μ-loop
+unfolding digits
+returns c = let z : c .before .loop .left ≡ 0 = omega arith in sym (c .before .loop .inv .3 ∙ rw z)
+
+pub put-digits-spec : {M : Type 1} → statement M
+put-digits-spec =
+    tie.close
+    (tie.spec
+    Inv-loop
+    μ-loop
+    loop-holds
+    sub-left
+    split-last-digit-requires
+    add-s
+    add-s-2
+    slice-write-s
+    loop-less
+    loop-again
+    same-length
+    returns)

@@ -1,0 +1,13 @@
+-- `printer::parts::behind_point`.
+use native.Mathlib.Omega.{arith}
+use Rattle.printer.specs.Parts.{partText}
+use Rattle.printer.proofs.Fraction.{point-first}
+use Rattle.printer.proofs.parts.behind_point.Statement.{statement}
+use Rattle.printer.proofs.parts.behind_point.Tie as tie
+
+returns : tie.Need-returns
+unfolding partText
+returns c = record { is = point-first (c .args .width) (c .args .value); bounded = record { width = omega arith; value = omega arith } }
+
+pub behind-point-spec : {M : Type 1} → statement M
+behind-point-spec = tie.close (tie.spec returns)

@@ -1,0 +1,60 @@
+-- `printer::parts::trimmed`: a last digit 0 may go at once (`trim-down`), and any other stays (`trim-stop`).
+use mathlib.Core.Path.{_≡_, _∙_}
+use Prim.Native.Nat.{_≤_, _<_, _^_}
+use native.Mathlib.Omega.{arith}
+use borrow.Author.Needs.{needs}
+use Rattle.printer.specs.Text.{digits, trim, fractionText}
+use Rattle.printer.proofs.Fraction.{trim-down, trim-stop}
+use Rattle.printer.proofs.parts.trimmed.Statement.{statement}
+use Rattle.printer.proofs.parts.trimmed.Tie as tie
+
+abbrev Inv-loop : tie.InvT-loop
+Inv-loop nanos width₀ value₀ width value = (width ≤ 9) × (value < 2 ^ 30) × (trim (digits 9 nanos) ≡ trim (digits width value))
+
+abbrev μ-loop : tie.MeasureT-loop
+μ-loop nanos width₀ value₀ width value = width
+
+loop-holds : tie.Need-loop-holds Inv-loop μ-loop
+loop-holds c = search needs
+
+split-last-digit-requires : tie.Need-split-last-digit-requires Inv-loop μ-loop
+split-last-digit-requires c κs = omega arith
+
+behind-point-requires : tie.Need-behind-point-requires Inv-loop μ-loop
+behind-point-requires c κs = search needs
+
+returns : tie.Need-returns Inv-loop μ-loop
+unfolding fractionText
+returns c = rw (c .before .before .before .before .before .loop .inv .2 ∙ trim-stop _ _ (λ l. omega arith)) (c .behind-point .ensures)
+
+sub-width : tie.Need-sub-width Inv-loop μ-loop
+sub-width c = omega arith
+
+loop-less : tie.Need-loop-less Inv-loop μ-loop
+loop-less c = omega arith
+
+loop-again : tie.Need-loop-again Inv-loop μ-loop
+loop-again c = (omega arith, omega arith, c .before .before .before .before .loop .inv .2 ∙ rw (c .before .before .split-last-digit .ensures .0) (trim-down _ _ (omega arith) (omega arith)))
+
+behind-point-requires-2 : tie.Need-behind-point-requires-2 Inv-loop μ-loop
+behind-point-requires-2 c κs = search needs
+
+returns-2 : tie.Need-returns-2 Inv-loop μ-loop
+unfolding fractionText
+returns-2 c = rw (c .before .before .loop .inv .2 ∙ trim-stop _ _ (λ l e. omega arith)) (c .behind-point2 .ensures)
+
+pub trimmed-spec : {M : Type 1} → statement M
+trimmed-spec =
+    tie.close
+    (tie.spec
+    Inv-loop
+    μ-loop
+    loop-holds
+    split-last-digit-requires
+    behind-point-requires
+    returns
+    sub-width
+    loop-less
+    loop-again
+    behind-point-requires-2
+    returns-2)

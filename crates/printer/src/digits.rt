@@ -1,0 +1,62 @@
+// Decimal digits, written as bytes.
+ghost use mathlib.Core.Path.{_≡_};
+ghost use Prim.Native.Nat.{_+_, _/_, _%_, _^_, _≤_, _<_};
+ghost use lib.ListN.{length};
+ghost use lib.Seq.{sets};
+ghost use Rattle.printer.specs.Text.{digits, field};
+
+pub(crate) struct Split {
+    pub rest: u32,
+    pub digit: u8,
+}
+
+// The one place where a digit comes off a number.
+pub(crate) fn split_last_digit(n: u32) -> Split
+    requires { ⌜ n < 2 ^ 30 ⌝ }
+    ensures { λ r. ⌜ (r .rest ≡ n / 10) × (r .digit ≡ n % 10) ⌝ }
+{
+    let digit = (n % 10) as u8;
+    Split {
+        rest: n / 10,
+        digit,
+    }
+}
+
+// The last `width` digits of n, from at on; the last one is written first.
+pub(crate) fn put_digits(s: &mut [u8], at: usize, width: usize, n: u32)
+    requires { ⌜ (at + width ≤ length (now s)) × (n < 2 ^ 30) ⌝ }
+    ensures { λ _. ⌜ now (s .exit) ≡ sets (now (s .entry)) at (digits width n) ⌝ }
+{
+    let mut left = width;
+    let mut m = n;
+    while 0 < left {
+        left -= 1;
+        let split = split_last_digit(m);
+        s[at + left] = 48 + split.digit;
+        m = split.rest;
+    }
+}
+
+// The same of a larger number: its last nine digits, and those before them.
+pub(crate) fn put_number(s: &mut [u8], at: usize, width: usize, n: u64)
+    requires { ⌜ (at + width ≤ length (now s)) × (n < 10 ^ 18) ⌝ }
+    ensures { λ _. ⌜ now (s .exit) ≡ sets (now (s .entry)) at (digits width n) ⌝ }
+{
+    let low = (n % 1000000000) as u32;
+    if width <= 9 {
+        put_digits(s, at, width, low);
+        return;
+    }
+    let lead = width - 9;
+    put_digits(s, at, lead, (n / 1000000000) as u32);
+    put_digits(s, at + lead, 9, low);
+}
+
+// A separator and two digits, from at on.
+pub(crate) fn put_field(s: &mut [u8], at: usize, separator: u8, n: u8)
+    requires { ⌜ at + 3 ≤ length (now s) ⌝ }
+    ensures { λ _. ⌜ now (s .exit) ≡ sets (now (s .entry)) at (field separator n) ⌝ }
+{
+    s[at] = separator;
+    put_digits(s, at + 1, 2, n as u32);
+}

@@ -1,0 +1,112 @@
+// Writing a stamp into a lent line.
+mod digits;
+mod parts;
+
+use calendar::secs_to_date_time;
+use counts::Epoch;
+use counts::TaiTime;
+use errors::PrintError;
+use parts::Part;
+ghost use mathlib.Core.Path.{_≡_};
+ghost use mathlib.Core.List.{_++_};
+ghost use Prim.Native.Nat.{_+_, _≤_};
+ghost use lib.ListN.{length};
+ghost use lib.Seq.{sets};
+ghost use Rattle.printer.specs.Text.{dash, point, fieldsText, text, Ranged};
+ghost use Rattle.printer.specs.Line.{said, answer, lineAfter};
+ghost use Rattle.printer.specs.Display.{displayed};
+ghost use Rattle.printer.specs.Parts.{Bounded, partText};
+
+// What is printed: a date, a time of day, and the nanoseconds since its second began.
+pub struct Stamp {
+    pub year: i64,
+    pub month: u8,
+    pub day: u8,
+    pub hour: u8,
+    pub minute: u8,
+    pub second: u8,
+    pub nanos: u32,
+}
+
+// How many digits of the fraction are printed; by default as many as it takes, and never more than nine.
+pub enum Precision {
+    Default,
+    Digits(usize),
+}
+
+// How many bytes were written, or why none were.
+pub enum Printed {
+    Length(usize),
+    Refused(PrintError),
+}
+
+// `-MM-DD hh:mm:ss`, from at on.
+fn put_fields(s: &mut [u8], at: usize, t: Stamp)
+    requires { ⌜ at + 15 ≤ length (now s) ⌝ }
+    ensures { λ _. ⌜ now (s .exit) ≡ sets (now (s .entry)) at (fieldsText t) ⌝ }
+{
+    digits::put_field(s, at, b'-', t.month);
+    digits::put_field(s, at + 3, b'-', t.day);
+    digits::put_field(s, at + 6, b' ', t.hour);
+    digits::put_field(s, at + 9, b':', t.minute);
+    digits::put_field(s, at + 12, b':', t.second);
+}
+
+// The year, the five fields and the fraction, from the front of s on.
+fn put_text(s: &mut [u8], year: Part, t: Stamp, fraction: Part)
+    requires { ⌜ Bounded year × Bounded fraction ⌝ }
+    requires { ⌜ length (partText dash year) + 15 + length (partText point fraction) ≤ length (now s) ⌝ }
+    ensures { λ _. ⌜ now (s .exit) ≡ sets (now (s .entry)) 0 (partText dash year ++ fieldsText t ++ partText point fraction) ⌝ }
+{
+    let at = parts::put_part(s, 0, b'-', year);
+    put_fields(s, at, t);
+    parts::put_part(s, at + 15, b'.', fraction);
+}
+
+// The text of t in the line, from the place `at` on. Its length is known before a byte is written.
+pub fn print_at(t: Stamp, precision: Precision, line: &mut [u8], at: usize) -> Printed
+    requires { ⌜ Ranged t ⌝ }
+    ensures { λ r. ⌜ said r ≡ answer (now (line .entry)) at (text t precision) ⌝ }
+    ensures { λ _. ⌜ now (line .exit) ≡ lineAfter (now (line .entry)) at (text t precision) ⌝ }
+{
+    if line.len() < at {
+        return Printed::Refused(PrintError::StartOutside);
+    }
+    let year = parts::year_part(t.year);
+    let fraction = parts::fraction_part(t.nanos, precision);
+    let length = parts::part_length(year) + 15 + parts::part_length(fraction);
+    if line.len() - at < length {
+        return Printed::Refused(PrintError::NoRoom);
+    }
+    put_text(&mut line[at..], year, t, fraction);
+    Printed::Length(length)
+}
+
+// The text of a timestamp over an epoch, written from the place `at` in the line.
+pub fn display(
+    t: TaiTime,
+    epoch: Epoch,
+    precision: Precision,
+    line: &mut [u8],
+    at: usize,
+) -> Printed
+    ensures { λ r. ⌜ (said r, now (line .exit)) ≡ displayed (t .secs) (t .nanos) (epoch .0) precision (now (line .entry)) at ⌝ }
+{
+    let nanos = t.nanos;
+    if 999999999 < nanos {
+        return Printed::Refused(PrintError::BadNanos);
+    }
+    let m = secs_to_date_time(t.secs, epoch.0);
+    let date = m.date;
+    let time = m.time;
+    let stamp = Stamp {
+        year: date.year,
+        month: date.month,
+        day: date.day,
+        hour: time.hour,
+        minute: time.minute,
+        second: time.second,
+        nanos,
+    };
+    print_at(stamp, precision, line, at)
+}

@@ -1,0 +1,100 @@
+-- The year that a text says is within the limit.
+use mathlib.Core.Path.{_≡_, refl, sym, subst}
+use mathlib.Core.Bool.{Bool, true, false, cond, _&&_}
+use mathlib.Core.List.{List}
+use Prim.Native.Nat.{ℕ, zero, suc, _≤_}
+use native.Mathlib.Omega.{arith}
+use lib.Dec.{ltb, leb}
+use lib.IntN.{ℤ, natAbs}
+use lib.ListN.{length, drop}
+use borrow.Author.Tests.{leb-true}
+use Rattle.errors.specs.declared.ParseDateTimeError.{ParseDateTimeError}
+use Rattle.errors.specs.declared.ParseDateTimeError.the-variants.{MissingField, InvalidFieldWidth, InvalidFieldValue}
+use Rattle.reader.specs.declared.date_time.DateTime.{DateTime}
+use Rattle.reader.specs.Numbers.{beginsWith, allDigits, decimal, digitsUpTo, number, onNumber}
+use Rattle.reader.specs.Fields.{unless, width, before, delimited, behind, twoDigits, seconds}
+use Rattle.reader.specs.Text.{onField, field, onSeconds, fromMonth, withSign, fromYear, withoutSign, parsed}
+use Rattle.reader.specs.declared.numbers.Number.{Number}
+use Rattle.reader.specs.declared.numbers.Number.the-variants.{Value, Bad}
+use Rattle.reader.specs.declared.fields.Delimiter.{Delimiter}
+use Rattle.reader.specs.declared.fields.Delimiter.the-variants.{Hyphen}
+use Rattle.reader.specs.declared.fields.Field.{Field}
+use Rattle.reader.specs.declared.fields.Field.the-variants as Field
+use Rattle.reader.specs.declared.fields.Seconds.{Seconds}
+use Rattle.reader.specs.declared.fields.Seconds.the-variants as Seconds
+use Rattle.reader.specs.declared.date_time.Parsed.{Parsed}
+use Rattle.reader.specs.declared.date_time.Parsed.the-variants.{Fields, Refused}
+
+-- the size of the year, where there is one
+pub data Within (limit : ℕ) : Parsed → Type 0 where
+  refused : {e : ParseDateTimeError} → Within limit (Refused e)
+  said : {f : DateTime} → natAbs (f .year) ≤ limit → Within limit (Fields f)
+
+module _ {limit : ℕ} where
+  on-field : (f : Field) (next : ℕ → Parsed) → ((v : ℕ) → Within limit (next v)) → Within limit (onField f next)
+  on-field (Field.Got v) next h = h v
+  on-field (Field.Last v) next h = refused
+  on-field (Field.Refused e) next h = refused
+
+  a-field : (d : Delimiter) (s : List ℕ) (next : ℕ → List ℕ → Parsed) → ((v : ℕ) (s : List ℕ) → Within limit (next v s)) → Within limit (field d s next)
+  unfolding field
+  a-field d s next h = on-field (twoDigits d s) (λ v. next v (behind d s)) (λ v. h v (behind d s))
+
+  on-seconds : (x : Seconds) (next : ℕ → ℕ → Parsed) → ((a b : ℕ) → Within limit (next a b)) → Within limit (onSeconds x next)
+  on-seconds (Seconds.Got a b) next h = h a b
+  on-seconds (Seconds.Refused e) next h = refused
+
+  from-month : (year : ℤ) (s : List ℕ) → natAbs year ≤ limit → Within limit (fromMonth year s)
+  unfolding fromMonth
+  from-month year s h =
+      a-field _ s _ λ month s.
+      a-field _ s _ λ day s.
+      a-field _ s _ λ hour s.
+      a-field _ s _ λ min s.
+      on-seconds (seconds s) _ λ sec nano.
+      said h
+
+  on-number : (n : Number) (p : Parsed) (next : ℕ → Parsed) → Within limit p → ((v : ℕ) → n ≡ Value v → Within limit (next v)) → Within limit (onNumber n p next)
+  on-number (Value v) p next h k = k v refl
+  on-number Bad p next h k = h
+
+  unless-within : (b : Bool) (p q : Parsed) → Within limit p → Within limit q → Within limit (unless b p q)
+  unless-within true p q h k = k
+  unless-within false p q h k = h
+
+-- a number is at most its limit
+digits-within : (limit : ℕ) (s : List ℕ) (v : ℕ) → digitsUpTo limit s ≡ Value v → v ≤ limit
+unfolding digitsUpTo
+digits-within limit s v e = go (ltb 0 (length s)) (allDigits s) (leb (decimal s) limit) refl e
+  where
+    go : (a b c : Bool) → leb (decimal s) limit ≡ c → cond (a && b && c) (Value (decimal s)) Bad ≡ Value v → v ≤ limit
+    go true true true p q = let r : decimal s ≡ v = cc in omega (arith, leb-true (decimal s) limit p)
+    go true true false p q = let z : _≡_ {A = ℕ} 0 1 = cc in absurd (omega arith)
+    go true false c p q = let z : _≡_ {A = ℕ} 0 1 = cc in absurd (omega arith)
+    go false b c p q = let z : _≡_ {A = ℕ} 0 1 = cc in absurd (omega arith)
+
+sign-size : (negative : Bool) (n : ℕ) → natAbs (withSign negative n) ≡ n
+sign-size true zero = refl
+sign-size true (suc n) = refl
+sign-size false n = refl
+
+number-within : (limit : ℕ) (s : List ℕ) (v : ℕ) → number limit s ≡ Value v → v ≤ limit
+unfolding number
+number-within limit s v e = digits-within limit (cond (beginsWith 43 s) (drop 1 s) s) v e
+
+pub year-within : (limit : ℕ) (s : List ℕ) → Within limit (parsed limit s)
+unfolding parsed fromYear
+year-within limit s =
+    let r = withoutSign s in
+    let year = withSign (beginsWith 45 s) in
+    unless-within (delimited Hyphen r) (Refused MissingField) _ refused
+    (unless-within (leb 4 (width Hyphen r)) (Refused InvalidFieldWidth) _ refused
+    (on-number (number limit (before Hyphen r)) (Refused InvalidFieldValue) (λ size. fromMonth (year size) (behind Hyphen r)) refused
+    λ v e. from-month (year v) (behind Hyphen r) (subst (λ n. n ≤ limit) (sym (sign-size (beginsWith 45 s) v)) (number-within limit (before Hyphen r) v e))))
+
+-- as a caller has it
+pub within-limit : {limit : ℕ} {p : Parsed} {f : DateTime} → Within limit p → p ≡ Fields f → natAbs (f .year) ≤ limit
+within-limit refused e = let z : _≡_ {A = ℕ} 0 1 = cc in absurd (omega arith)
+within-limit {limit} {f = f} (said {f = g} h) e =
+    let y : g ≡ f = cc in
+    subst (λ (d : DateTime). natAbs (d .year) ≤ limit) y h

@@ -1,0 +1,106 @@
+// A field of a text, up to its delimiter.
+use crate::bytes;
+use crate::numbers;
+use crate::numbers::Number;
+use errors::ParseDateTimeError;
+ghost use mathlib.Core.Path.{_≡_};
+ghost use Prim.Native.Nat.{_≤_};
+ghost use lib.ListN.{length};
+ghost use Rattle.reader.specs.Fields.{isDelimiter, width, twoDigits, fraction, seconds};
+
+pub enum Delimiter {
+    Hyphen,
+    SpaceOrT,
+    Colon,
+    Point,
+}
+
+// Got: its delimiter follows. Last: the text ends behind it.
+pub enum Field {
+    Got(u8),
+    Last(u8),
+    Refused(ParseDateTimeError),
+}
+
+// The seconds and their nanoseconds.
+pub enum Seconds {
+    Got(u8, u32),
+    Refused(ParseDateTimeError),
+}
+
+fn is_delimiter(delimiter: Delimiter, byte: u8) -> bool
+    ensures { λ r. ⌜ r ≡ isDelimiter delimiter byte ⌝ }
+{
+    match delimiter {
+        Delimiter::Hyphen => byte == b'-',
+        Delimiter::SpaceOrT => byte == b' ' || byte == b'T' || byte == b't',
+        Delimiter::Colon => byte == b':',
+        Delimiter::Point => byte == b'.',
+    }
+}
+
+// How many bytes stand before the first delimiter.
+pub fn find(s: &[u8], delimiter: Delimiter) -> usize
+    ensures { λ r. ⌜ r ≡ width delimiter (now (s .entry)) ⌝ }
+    ensures { λ r. ⌜ r ≤ length (now (s .entry)) ⌝ }
+{
+    let mut i = 0;
+    while i < s.len() {
+        if is_delimiter(delimiter, s[i]) {
+            return i;
+        }
+        i += 1;
+    }
+    i
+}
+
+// Two bytes write no number above 99.
+pub fn pull_two_digits(s: &[u8], delimiter: Delimiter) -> Field
+    ensures { λ r. ⌜ r ≡ twoDigits delimiter (now (s .entry)) ⌝ }
+{
+    let n = find(s, delimiter);
+    if n != 2 {
+        return Field::Refused(ParseDateTimeError::InvalidFieldWidth);
+    }
+    let Number::Value(v) = numbers::parse_number(&s[..n], 99) else {
+        return Field::Refused(ParseDateTimeError::InvalidFieldValue);
+    };
+    let value = v as u8;
+    if n < s.len() {
+        return Field::Got(value);
+    }
+    Field::Last(value)
+}
+
+// Every digit is validated, those of weight 0 too.
+fn pull_fraction(sec: u8, digits: &[u8]) -> Seconds
+    ensures { λ r. ⌜ r ≡ fraction sec (now (digits .entry)) ⌝ }
+{
+    if digits.len() == 0 {
+        return Seconds::Refused(ParseDateTimeError::MissingField);
+    }
+    let mut nano: u32 = 0;
+    let mut weight: u32 = 100000000;
+    let mut i = 0;
+    while i < digits.len() {
+        let x = digits[i];
+        if !numbers::is_digit(x) {
+            return Seconds::Refused(ParseDateTimeError::InvalidFieldValue);
+        }
+        nano += (x - b'0') as u32 * weight;
+        weight /= 10;
+        i += 1;
+    }
+    Seconds::Got(sec, nano)
+}
+
+pub fn pull_seconds(s: &[u8]) -> Seconds
+    ensures { λ r. ⌜ r ≡ seconds (now (s .entry)) ⌝ }
+{
+    let f = pull_two_digits(s, Delimiter::Point);
+    match f {
+        Field::Got(sec) => pull_fraction(sec, bytes::skip(s, 3)),
+        Field::Last(sec) => Seconds::Got(sec, 0),
+        Field::Refused(e) => Seconds::Refused(e),
+    }
+}

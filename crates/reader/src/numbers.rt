@@ -1,0 +1,54 @@
+// The number in a field.
+use crate::bytes;
+ghost use mathlib.Core.Path.{_≡_};
+ghost use Rattle.reader.specs.Numbers.{isDigit, digitsUpTo, number};
+
+// Bad: no number, or one above the limit.
+pub enum Number {
+    Value(u64),
+    Bad,
+}
+
+pub fn is_digit(byte: u8) -> bool
+    ensures { λ r. ⌜ r ≡ isDigit byte ⌝ }
+{
+    b'0' <= byte && byte <= b'9'
+}
+
+// Too large and ill formed are the same refusal, so that the first digit too many ends it: n never passes the limit.
+fn digits(s: &[u8], limit: u64) -> Number
+    ensures { λ r. ⌜ r ≡ digitsUpTo limit (now (s .entry)) ⌝ }
+{
+    if s.len() == 0 {
+        return Number::Bad;
+    }
+    let mut n: u64 = 0;
+    let mut i = 0;
+    while i < s.len() {
+        let x = s[i];
+        if !is_digit(x) {
+            return Number::Bad;
+        }
+        let digit = (x - b'0') as u64;
+        if limit / 10 < n {
+            return Number::Bad;
+        }
+        n *= 10;
+        if limit - n < digit {
+            return Number::Bad;
+        }
+        n += digit;
+        i += 1;
+    }
+    Number::Value(n)
+}
+
+// The inner `+` is Rust's own integer parsing.
+pub fn parse_number(s: &[u8], limit: u64) -> Number
+    ensures { λ r. ⌜ r ≡ number limit (now (s .entry)) ⌝ }
+{
+    if bytes::begins_with(s, b'+') {
+        return digits(bytes::skip(s, 1), limit);
+    }
+    digits(s, limit)
+}
