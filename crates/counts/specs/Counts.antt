@@ -5,7 +5,9 @@ use Prim.Native.Nat.{ℕ, _+_, _*_, _/_, _%_}
 use lib.Dec.{ltb, leb}
 use lib.IntN.{ℤ, pos, negsuc, _+ℤ_, _-ℤ_, _*ℤ_}
 use lib.Signed.{ltZ}
-use Rattle.integers.specs.Integers.{isI64, floorDiv, floorMod}
+use Rattle.integers.specs.Integers.{isI64, checked, floorDiv, floorMod}
+use Rattle.integers.specs.declared.Checked.{Checked}
+use Rattle.integers.specs.declared.Checked.the-variants.{Outside}
 use Rattle.errors.specs.Refusals.{Refusal, refusal, Outcome, gives, refuses, refusesInRangeError}
 use Rattle.calendar.specs.Walk.{date, monthLength}
 use Rattle.calendar.specs.Moments.{secondsOf}
@@ -72,6 +74,10 @@ unfoldable pub overEpoch : ℤ → ℤ → ℤ → ℕ → Outcome (ℤ × ℕ)
 overEpoch old new secs nanos =
     goodNanos nanos
     (representable (old -ℤ new) (representable (old -ℤ new +ℤ secs) (gives (old -ℤ new +ℤ secs, nanos))))
+
+-- what both have in common: a - less + more, where that and the partial sum a - less are i64's
+unfoldable pub minusPlus : ℤ → ℤ → ℤ → Checked
+minusPlus a less more = cond (isI64 (a -ℤ less)) (checked (a -ℤ less +ℤ more)) Outside
 
 -- the exact count of nanoseconds of a timestamp or a duration
 unfoldable pub exact : ℤ → ℕ → ℤ

@@ -8,7 +8,7 @@ use integers::checked_add;
 use integers::checked_sub;
 ghost use mathlib.Core.Path.{_≡_};
 ghost use Rattle.counts.specs.Said.{saidCounted, saidUnix};
-ghost use Rattle.counts.specs.Counts.{fromUnix, toUnix, overEpoch};
+ghost use Rattle.counts.specs.Counts.{fromUnix, minusPlus, toUnix, overEpoch};
 
 // Unix to timestamp: + carry, + leap, - epoch.
 pub fn from_unix(epoch: i64, unix: i64, nanos: u32, leap: i64) -> Counted
@@ -27,6 +27,16 @@ pub fn from_unix(epoch: i64, unix: i64, nanos: u32, leap: i64) -> Counted
     Counted::At(secs, nanos % 1000000000)
 }
 
+// a - less + more, where that and a - less are i64's.
+fn minus_plus(a: i64, less: i64, more: i64) -> Checked
+    ensures { λ r. ⌜ r ≡ minusPlus a less more ⌝ }
+{
+    let Checked::Exact(between) = checked_sub(a, less) else {
+        return Checked::Outside;
+    };
+    checked_add(between, more)
+}
+
 // Timestamp to Unix: - leap, + epoch.
 pub fn to_unix(epoch: i64, secs: i64, nanos: u32, leap: i64) -> UnixAnswer
     ensures { λ r. ⌜ saidUnix r ≡ toUnix epoch secs nanos leap ⌝ }
@@ -34,10 +44,7 @@ pub fn to_unix(epoch: i64, secs: i64, nanos: u32, leap: i64) -> UnixAnswer
     if 999999999 < nanos {
         return UnixAnswer::Refused(CountError::BadNanos);
     }
-    let Checked::Exact(universal) = checked_sub(secs, leap) else {
-        return UnixAnswer::Refused(CountError::NotRepresentable);
-    };
-    let Checked::Exact(unix) = checked_add(universal, epoch) else {
+    let Checked::Exact(unix) = minus_plus(secs, leap, epoch) else {
         return UnixAnswer::Refused(CountError::NotRepresentable);
     };
     UnixAnswer::At(UnixSeconds(unix))
@@ -50,10 +57,7 @@ pub fn over_epoch(old: i64, new: i64, secs: i64, nanos: u32) -> Counted
     if 999999999 < nanos {
         return Counted::Refused(CountError::BadNanos);
     }
-    let Checked::Exact(between) = checked_sub(old, new) else {
-        return Counted::Refused(CountError::NotRepresentable);
-    };
-    let Checked::Exact(moved) = checked_add(between, secs) else {
+    let Checked::Exact(moved) = minus_plus(old, new, secs) else {
         return Counted::Refused(CountError::NotRepresentable);
     };
     Counted::At(moved, nanos)

@@ -8,6 +8,7 @@ mod answers;
 pub mod desk;
 mod entries;
 mod epochs;
+mod random;
 pub mod readings;
 
 pub use answers::{Answer, DateRefusal, DateTime, Duration, Refusal, Timestamp};
@@ -16,3 +17,4 @@ pub use entries::{
     from_str, new, print, to_tai_time, try_from_date_time, try_from_unix_timestamp,
 };
 pub use epochs::{EPOCH_NAMES, EPOCHS};
+pub use random::Random;

@@ -1,8 +1,8 @@
 //! Requests of sums, differences and comparison: `add`, `sub`, `since` and `compare`.
 
-use oracle::{Answer, Duration, Timestamp};
+use oracle::{Answer, Duration, Random, Timestamp};
 
-use crate::list::{List, Random};
+use crate::list::List;
 use crate::values::{BOTTOM, DURATIONS, TIMESTAMPS, TOP};
 
 const EARLIEST: Timestamp = Timestamp {
