@@ -1,7 +1,8 @@
 #!/usr/bin/env python3
-"""Writes the requests that the Rust has no answer to; the second judge answers them.
+"""Writes requests that the Rust has no answer to; the second judge answers them.
 
-The list is the same on every run: boundary values in a fixed order, and numbers of splitmix64.
+    beyond.py          the list that is kept, the same on every run
+    beyond.py SEED     the same boundary values with other random numbers
 """
 
 import sys
@@ -127,8 +128,8 @@ def add_prints(requests):
         requests.add("print", *words)
 
 
-def main():
-    requests = List(SEED)
+def main(words):
+    requests = List(int(words[0]) if words else SEED)
     add_dates_over_other_epochs(requests)
     add_full_seconds(requests)
     add_sums_over_other_epochs(requests)
@@ -141,4 +142,4 @@ def main():
 
 
 if __name__ == "__main__":
-    main()
+    main(sys.argv[1:])

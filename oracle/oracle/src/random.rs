@@ -10,7 +10,8 @@ impl Random {
         Random(seed)
     }
 
-    pub fn next(&mut self) -> u64 {
+    /// Any number.
+    pub fn any(&mut self) -> u64 {
         self.0 = self.0.wrapping_add(0x9E37_79B9_7F4A_7C15);
         let mixed = (self.0 ^ (self.0 >> 30)).wrapping_mul(0xBF58_476D_1CE4_E5B9);
         let mixed = (mixed ^ (mixed >> 27)).wrapping_mul(0x94D0_49BB_1331_11EB);
@@ -19,7 +20,7 @@ impl Random {
 
     /// A number below `limit`.
     pub fn below(&mut self, limit: u64) -> u64 {
-        self.next() % limit
+        self.any() % limit
     }
 
     /// One of these.
@@ -30,13 +31,13 @@ impl Random {
     /// A signed number of a random size, so that small ones are as frequent as large ones.
     pub fn signed(&mut self, bits: u64) -> i64 {
         let unused = 64 - bits + self.below(bits);
-        (self.next() as i64) >> unused
+        (self.any() as i64) >> unused
     }
 
     /// An unsigned number of a random size.
     pub fn unsigned(&mut self) -> u64 {
         let unused = self.below(64);
-        self.next() >> unused
+        self.any() >> unused
     }
 
     /// Nanoseconds below 10^9, the ends more often than by chance.

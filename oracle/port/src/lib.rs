@@ -87,12 +87,8 @@ unsafe extern "C" {
         earlier_secs: i64,
         earlier_nanos: u32,
     ) -> DurationResult;
-    pub safe fn tai_cmp(
-        secs: i64,
-        nanos: u32,
-        other_secs: i64,
-        other_nanos: u32,
-    ) -> OrderingResult;
+    pub safe fn tai_cmp(secs: i64, nanos: u32, other_secs: i64, other_nanos: u32)
+    -> OrderingResult;
     pub safe fn tai_secs_to_date_time(seconds: i64, epoch: i64) -> MomentResult;
     fn tai_from_str(text: *const u8, len: usize, epoch: i64) -> TimeResult;
     fn tai_display(

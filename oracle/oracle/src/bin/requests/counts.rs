@@ -27,6 +27,10 @@ fn add_new(list: &mut List) {
             list.add("new", &[], format_args!("{secs} {nanos}"));
         }
     }
+    for _ in 0..100 {
+        let (secs, nanos) = (list.random.signed(64), list.random.any() as u32);
+        list.add("new", &[], format_args!("{secs} {nanos}"));
+    }
 }
 
 /// The partial sums: seconds + carry, + leap, - epoch.
@@ -82,9 +86,9 @@ fn add_unix(list: &mut List) {
             }
         }
     }
-    for _ in 0..120 {
+    for _ in 0..700 {
         let (epoch, secs) = (list.random.pick(&EPOCHS), list.random.signed(64));
-        let (nanos, leap) = (list.random.next() as u32, list.random.signed(64));
+        let (nanos, leap) = (list.random.any() as u32, list.random.signed(64));
         list.add("unix", &[epoch], format_args!("{secs} {nanos} {leap}"));
     }
 }
@@ -118,7 +122,7 @@ fn add_to_unix(list: &mut List) {
             }
         }
     }
-    for _ in 0..100 {
+    for _ in 0..500 {
         let (epoch, stamp) = (list.random.pick(&EPOCHS), list.random.timestamp());
         let leap = list.random.signed(64);
         list.add("to-unix", &[epoch], format_args!("{stamp} {leap}"));
@@ -140,7 +144,7 @@ fn add_epoch_changes(list: &mut List) {
             }
         }
     }
-    for _ in 0..60 {
+    for _ in 0..500 {
         let pair = [list.random.pick(&EPOCHS), list.random.pick(&EPOCHS)];
         let stamp = list.random.timestamp();
         list.add("epoch", &pair, stamp);

@@ -39,7 +39,7 @@ pub fn add_all(list: &mut List) {
             add(list, &inserted(&good, place, other));
         }
     }
-    for _ in 0..400 {
+    for _ in 0..5000 {
         add_random(list);
     }
 }

@@ -15,6 +15,7 @@ pub fn add_all(list: &mut List) {
     add_range_edges(list);
     add_several_faults(list);
     add_random(list);
+    add_random_faults(list);
 }
 
 fn add_date(list: &mut List, epoch: i64, date: DateTime) {
@@ -69,9 +70,9 @@ fn add_year_edges(list: &mut List) {
     }
 }
 
-/// Days 0, 1 and 28 to 32 of every month of a common and a leap year, and months that are none.
+/// Days 0, 1 and 28 to 32 of every month of common and leap years, and months that are none.
 fn add_month_edges(list: &mut List) {
-    for year in [2019, 2000] {
+    for year in [-100, -4, 0, 1900, 2000, 2019] {
         for month in (0..=13).chain([254, 255]) {
             for day in [0, 1, 28, 29, 30, 31, 32, 255] {
                 add_date(list, 0, midnight(year, month, day));
@@ -157,7 +158,7 @@ fn add_several_faults(list: &mut List) {
 
 /// Random dates, most of them of the calendar.
 fn add_random(list: &mut List) {
-    for _ in 0..200 {
+    for _ in 0..1500 {
         let random = &mut list.random;
         let date = DateTime {
             year: random.signed(32) as i32,
@@ -170,5 +171,26 @@ fn add_random(list: &mut List) {
         };
         let epoch = random.pick(ordinary_epochs());
         add_date(list, epoch, date);
+    }
+}
+
+/// Random fields on both sides of their limits over each of the ten epochs.
+fn add_random_faults(list: &mut List) {
+    for _ in 0..1500 {
+        let random = &mut list.random;
+        let nanos = [random.nanos(), random.pick(&ANY_NANOS), random.any() as u32];
+        let date = DateTime {
+            year: 1970 + random.signed(8) as i32,
+            month: random.below(14) as u8,
+            day: random.below(33) as u8,
+            hour: random.below(25) as u8,
+            min: random.below(62) as u8,
+            sec: random.below(62) as u8,
+            nano: random.pick(&nanos),
+        };
+        let epoch = random.pick(&EPOCHS);
+        if date.nano != FULL_SECOND {
+            add_date(list, epoch, date);
+        }
     }
 }

@@ -106,14 +106,20 @@ fn add_year_edges(list: &mut List) {
     }
 }
 
-/// The first and last second of every month of a common and a leap year, and of every hour.
+/// The first and last second of every month of common and leap years, of every day of a leap year,
+/// and of every hour.
 fn add_month_edges(list: &mut List) {
-    for year in [2019, 2000] {
+    for year in [-101, -4, 0, 1900, 2000, 2019] {
         for month in 1..=12 {
             let start = day_start(year, month, 1);
             add_second(list, start - 1);
             add_second(list, start);
         }
+    }
+    for day in 0..366 {
+        let start = day_start(2000, 1, 1) + 86_400 * day;
+        add_second(list, start);
+        add_second(list, start + 86_399);
     }
     let start = day_start(2020, 2, 29);
     for hour in 0..24 {
@@ -154,7 +160,7 @@ fn add_cycle_edges(list: &mut List) {
 }
 
 fn add_random(list: &mut List) {
-    for _ in 0..200 {
+    for _ in 0..3000 {
         let (epoch, stamp) = (list.random.pick(&EPOCHS), list.random.timestamp());
         let precision = list.random.pick(&PRECISIONS);
         list.add("print", &[epoch], format_args!("{stamp} {precision}"));

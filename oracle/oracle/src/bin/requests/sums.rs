@@ -22,12 +22,12 @@ pub fn add_all(list: &mut List) {
         }
         add_edges(list, stamp);
     }
-    for _ in 0..120 {
+    for _ in 0..700 {
         let (stamp, duration) = (list.random.timestamp(), random_duration(&mut list.random));
         list.add("add", &[], format_args!("{stamp} {duration}"));
         list.add("sub", &[], format_args!("{stamp} {duration}"));
     }
-    for _ in 0..30 {
+    for _ in 0..120 {
         let stamp = list.random.timestamp();
         add_edges(list, stamp);
     }
@@ -37,7 +37,7 @@ pub fn add_all(list: &mut List) {
             list.add("compare", &[], format_args!("{first} {second}"));
         }
     }
-    for _ in 0..100 {
+    for _ in 0..350 {
         let (first, mut second) = (list.random.timestamp(), list.random.timestamp());
         // In one case of three the nanoseconds alone decide.
         if list.random.below(3) == 0 {

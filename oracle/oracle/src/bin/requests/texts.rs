@@ -76,6 +76,7 @@ pub fn add_all(list: &mut List) {
     add_separators(list);
     add_days(list);
     add_epochs(list);
+    add_short(list);
 }
 
 /// The fields with some of them replaced, up to and with the last one named.
@@ -266,6 +267,32 @@ fn add_epochs(list: &mut List) {
             "1970-01-01 00:00:60",
         ] {
             list.add_text(epoch, text);
+        }
+    }
+}
+
+/// Every text of up to two characters behind a prefix that ends where the reader changes its mind.
+fn add_short(list: &mut List) {
+    let alphabet = ["", "0", "1", "9", "+", "-", ":", ".", " ", "T", "x", "é"];
+    for prefix in [
+        "",
+        "+",
+        "2020-",
+        "2020-0",
+        "2020-01-3",
+        "2020-01-30",
+        "2020-01-30T",
+        "2020-01-30 2",
+        "2020-01-30 23:5",
+        "2020-01-30 23:59:",
+        "2020-01-30 23:59:5",
+        "2020-01-30 23:59:59",
+        "2020-01-30 23:59:59.12345678",
+    ] {
+        for first in alphabet {
+            for second in alphabet {
+                list.add_text_once(&format!("{prefix}{first}{second}"));
+            }
         }
     }
 }

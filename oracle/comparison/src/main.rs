@@ -80,7 +80,7 @@ fn fixed_jobs() -> Vec<Job> {
 fn random_jobs(count: u64, seed: u64) -> impl Iterator<Item = Job> {
     let mut seeds = Random::new(seed);
     (0..count.div_ceil(PART)).map(move |part| {
-        let (seed, cases) = (seeds.next(), PART.min(count - part * PART));
+        let (seed, cases) = (seeds.any(), PART.min(count - part * PART));
         Box::new(move |tally: &mut Tally| random_cases(tally, cases, seed)) as Job
     })
 }

@@ -58,8 +58,18 @@ pub const PRECISIONS: [Option<usize>; 16] = {
 /// Seconds at the ends of i64 and of narrower types, at each epoch on both sides of 0, at the
 /// starts of year 0 and of its cycles, each with its neighbours.
 pub fn seconds() -> Vec<i64> {
-    let mut bases = vec![i64::MIN, i64::MAX, 0, -62_167_219_200, -67_768_100_567_971_200];
-    bases.extend([-67_768_040_609_740_800, 67_767_976_233_532_799, 253_402_300_799]);
+    let mut bases = vec![
+        i64::MIN,
+        i64::MAX,
+        0,
+        -62_167_219_200,
+        -67_768_100_567_971_200,
+    ];
+    bases.extend([
+        -67_768_040_609_740_800,
+        67_767_976_233_532_799,
+        253_402_300_799,
+    ]);
     bases.extend(EPOCHS.map(|epoch| epoch.wrapping_neg()));
     bases.extend(EPOCHS);
     for bits in [8, 16, 31, 32, 53, 62] {
@@ -77,7 +87,11 @@ pub fn seconds() -> Vec<i64> {
 fn durations() -> Vec<u64> {
     let mut all = BTreeSet::from([0, 1, 2, u64::MAX - 1, u64::MAX]);
     for secs in seconds() {
-        all.extend([secs.abs_diff(0), secs.abs_diff(i64::MIN), secs.abs_diff(i64::MAX)]);
+        all.extend([
+            secs.abs_diff(0),
+            secs.abs_diff(i64::MIN),
+            secs.abs_diff(i64::MAX),
+        ]);
     }
     all.into_iter().collect()
 }
@@ -131,8 +145,22 @@ pub fn epochs(tally: &mut Tally, epoch: i64) {
 
 /// Years at both ends and on both sides of multiples of 4, 100 and 400, by fields and by text.
 pub fn dates(tally: &mut Tally, epoch: i64) {
-    let bases = [i32::MIN, i32::MAX, -10_000, -2000, -400, -100, -4, 0, 4, 100, 400];
-    let more = [1582, 1900, 1958, 1970, 1972, 1980, 2000, 2100, 9999, 99_999, 1_000_000];
+    let bases = [
+        i32::MIN,
+        i32::MAX,
+        -10_000,
+        -2000,
+        -400,
+        -100,
+        -4,
+        0,
+        4,
+        100,
+        400,
+    ];
+    let more = [
+        1582, 1900, 1958, 1970, 1972, 1980, 2000, 2100, 9999, 99_999, 1_000_000,
+    ];
     for base in bases.into_iter().chain(more) {
         for year in (-1..=1).filter_map(|step| base.checked_add(step)) {
             for (month, day) in [(1, 1), (1, 31), (2, 28), (2, 29), (2, 30), (3, 1), (12, 31)] {
@@ -195,6 +223,9 @@ pub fn prints(tally: &mut Tally, epoch: i64) {
                 precision,
             };
             lines::everywhere(tally, asked);
+            if precision.is_none() {
+                lines::megabyte(tally, asked);
+            }
         }
     }
 }

@@ -83,9 +83,46 @@ fn wanted(text: usize, line: usize, at: usize) -> LengthResult {
 /// One lent line of `len` bytes and one place.
 pub fn at(tally: &mut Tally, entry: Entry, asked: Asked, text: &Text, len: usize, at: usize) {
     let shift = text.len + 7 * len + at % 64;
-    let mut port = [0; WHOLE];
-    port.copy_from_slice(&FILLING[shift % 128..][..WHOLE]);
-    let mut rust = port;
+    let mut lent = [0; WHOLE];
+    lent.copy_from_slice(&FILLING[shift % 128..][..WHOLE]);
+    lend(
+        tally,
+        entry,
+        asked,
+        text,
+        &mut lent.clone(),
+        &mut lent,
+        len,
+        at,
+    );
+}
+
+/// Lines of a megabyte, with places at both ends.
+pub fn megabyte(tally: &mut Tally, asked: Asked) {
+    let (text, len) = (Text::of(asked), 1 << 20);
+    let whole = FILLING.iter().copied().cycle().take(len + 2 * MARGIN);
+    let whole: Vec<u8> = whole.collect();
+    let end = len - text.len;
+    for place in [0, 1, len / 2, end - 1, end, end + 1, len - 1, len, len + 1] {
+        let (mut rust, mut port) = (whole.clone(), whole.clone());
+        let entry = Entry::OtherPlaces;
+        lend(tally, entry, asked, &text, &mut rust, &mut port, len, place);
+    }
+}
+
+/// Asks the port for the text in the middle of `port`; `rust`, the same bytes, gets what is wanted.
+#[allow(clippy::too_many_arguments)]
+#[inline]
+fn lend(
+    tally: &mut Tally,
+    entry: Entry,
+    asked: Asked,
+    text: &Text,
+    rust: &mut [u8],
+    port: &mut [u8],
+    len: usize,
+    at: usize,
+) {
     let wanted = wanted(text.len, len, at);
     if wanted.refusal == -1 {
         rust[MARGIN + at..][..text.len].copy_from_slice(&text.bytes[..text.len]);
@@ -97,16 +134,16 @@ pub fn at(tally: &mut Tally, entry: Entry, asked: Asked, text: &Text, len: usize
     } = asked;
     let line = &mut port[MARGIN..MARGIN + len];
     let given = port::display(stamp.secs, stamp.nanos, epoch, precision, line, at);
-    let (rust, port) = ((wanted, rust), (given, black_box(port)));
+    let port = black_box(port);
     tally.cases[entry as usize] += 1;
-    if rust != port {
+    if given != wanted || rust != port {
         let precision = precision.map_or("-".to_owned(), |digits| digits.to_string());
-        let lent = &FILLING[shift % 128 + MARGIN..][..len];
-        let request = format!("line {epoch} {stamp} {precision} {at} {}", hex(lent));
-        let side = |(length, bytes): (LengthResult, [u8; WHOLE])| {
-            format!("{length:?}, with {MARGIN} bytes around {}", hex(&bytes))
+        let request = format!("line {epoch} {stamp} {precision} {at}, {len} bytes lent");
+        let side = |length: LengthResult, bytes: &[u8]| match len <= LONGEST_LINE {
+            true => format!("{length:?}, with {MARGIN} bytes around {}", hex(bytes)),
+            false => format!("{length:?}"),
         };
-        tally.add_difference(entry, side(rust), side(port), request);
+        tally.add_difference(entry, side(wanted, rust), side(given, port), request);
     }
 }
 

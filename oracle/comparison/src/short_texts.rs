@@ -65,7 +65,9 @@ fn lengthen(tally: &mut Tally, text: &mut String, more: usize, which: &mut usize
 pub fn megabytes(tally: &mut Tally) {
     let long = |filling: &str| filling.repeat((1 << 20) / filling.len());
     let good = "2020-02-29 23:59:59";
-    for filling in ["0", "9", "-", "+", " ", "T", ":", ".", "x", "é", "😀", "\0", good] {
+    for filling in [
+        "0", "9", "-", "+", " ", "T", ":", ".", "x", "é", "😀", "\0", good,
+    ] {
         let long = long(filling);
         for text in [
             long.clone(),

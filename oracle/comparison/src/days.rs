@@ -76,9 +76,7 @@ fn text_of(date: DateTime) -> String {
     let sign = if year < 0 { "-" } else { "" };
     let size = year.unsigned_abs();
     let separator = [' ', 'T', 't'][nano as usize % 3];
-    format!(
-        "{sign}{size:04}-{month:02}-{day:02}{separator}{hour:02}:{min:02}:{sec:02}.{nano:09}"
-    )
+    format!("{sign}{size:04}-{month:02}-{day:02}{separator}{hour:02}:{min:02}:{sec:02}.{nano:09}")
 }
 
 /// Every month with every day, every value of the clock's fields, and all limits together.
@@ -102,7 +100,10 @@ pub fn every_field(tally: &mut Tally, year: i32) {
             entries::try_from_date_time(tally, 0, date);
         }
         for date in [
-            DateTime { hour: value, ..good },
+            DateTime {
+                hour: value,
+                ..good
+            },
             DateTime { min: value, ..good },
             DateTime { sec: value, ..good },
         ] {
@@ -149,13 +150,4 @@ const NANOS: [u32; 7] = [
 ];
 
 /// The years whose fields are all tried.
-pub const YEARS: [i32; 8] = [
-    i32::MIN,
-    -400,
-    -1,
-    0,
-    1900,
-    2000,
-    2019,
-    i32::MAX,
-];
+pub const YEARS: [i32; 8] = [i32::MIN, -400, -1, 0, 1900, 2000, 2019, i32::MAX];

@@ -14,7 +14,7 @@ impl Bases {
     fn secs(&self, random: &mut Random) -> i64 {
         match random.below(4) {
             0 => random.signed(64),
-            1 => random.next() as i64,
+            1 => random.any() as i64,
             2 => random.pick(&self.0).wrapping_add(random.signed(20)),
             // Between the years 1938 and 2107.
             _ => random.below(1 << 32).wrapping_mul(5) as i64 / 4 - 1_000_000_000,
@@ -110,7 +110,7 @@ impl Bases {
         }
         if random.below(4) == 0 {
             for _ in 0..=random.below(2) {
-                let any = random.next() as u8;
+                let any = random.any() as u8;
                 match random.below(6) {
                     0 => date.month = any % 16,
                     1 => date.day = any % 64,
@@ -139,7 +139,7 @@ impl Bases {
             precision,
         };
         let text = Text::of(asked);
-        let (len, place) = lines::place(text.len(), random.next() as usize);
+        let (len, place) = lines::place(text.len(), random.any() as usize);
         lines::at(tally, Entry::Display, asked, &text, len, place);
         lines::moment(tally, asked, &text);
         if precision.is_none() {
@@ -168,7 +168,7 @@ fn end(random: &mut Random) -> i128 {
 fn any_nanos(random: &mut Random) -> u32 {
     let whole = random.below(5) as u32 * FULL_SECOND;
     match random.below(3) {
-        0 => random.next() as u32,
+        0 => random.any() as u32,
         1 => whole.wrapping_add(random.below(3) as u32).wrapping_sub(1),
         _ => random.nanos(),
     }

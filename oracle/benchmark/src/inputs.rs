@@ -1,0 +1,61 @@
+//! The inputs of the benchmark: random stamps between the years 1958 and 2100.
+
+use std::time::Duration;
+
+use oracle::{DateTime, Random, Timestamp};
+use tai_time::MonotonicTime;
+
+const SEED: u64 = 1958;
+
+/// More than a processor's memory of past branches learns by heart.
+pub const CALLS: usize = 16_384;
+
+/// The seconds from 1970 of 1958-01-01 and of 2101-01-01.
+const FIRST: i64 = -378_691_200;
+const END: i64 = 4_133_980_800;
+
+pub struct Inputs {
+    pub stamps: Vec<Timestamp>,
+    pub times: Vec<MonotonicTime>,
+    pub texts: Vec<String>,
+    pub dates: Vec<DateTime>,
+    pub durations: Vec<Duration>,
+}
+
+impl Inputs {
+    pub fn new() -> Self {
+        let mut random = Random::new(SEED);
+        let nanos = |random: &mut Random| random.below(1_000_000_000) as u32;
+        let stamps: Vec<Timestamp> = (0..CALLS)
+            .map(|_| Timestamp {
+                secs: FIRST + random.below((END - FIRST) as u64) as i64,
+                nanos: nanos(&mut random),
+            })
+            .collect();
+        let dates = (0..CALLS)
+            .map(|_| DateTime {
+                year: 1958 + random.below(143) as i32,
+                month: 1 + random.below(12) as u8,
+                day: 1 + random.below(28) as u8,
+                hour: random.below(24) as u8,
+                min: random.below(60) as u8,
+                sec: random.below(60) as u8,
+                nano: nanos(&mut random),
+            })
+            .collect();
+        let durations = (0..CALLS)
+            .map(|_| Duration::new(random.below(1 << 32), nanos(&mut random)))
+            .collect();
+        let times: Vec<MonotonicTime> = stamps
+            .iter()
+            .map(|stamp| MonotonicTime::new(stamp.secs, stamp.nanos).expect("good nanoseconds"))
+            .collect();
+        Inputs {
+            texts: times.iter().map(|time| time.to_string()).collect(),
+            stamps,
+            times,
+            dates,
+            durations,
+        }
+    }
+}
