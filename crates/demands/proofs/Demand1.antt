@@ -1,0 +1,191 @@
+-- Demand 1: any bytes, numbers and epoch get an answer or a refusal from document 01's table, in its order of checks, and a
+-- refusal changes no lent byte. An entry promises `said answer ≡ meaning input`, of which the meanings are stated about here.
+use mathlib.Core.Path.{_≡_}
+use mathlib.Core.List.{List, [], _∷_}
+use mathlib.Core.Logic.{_⊎_}
+use Prim.Native.Nat.{ℕ, _+_, _<_, _≤_}
+use lib.IntN.{ℤ, pos}
+use lib.ListN.{length}
+use Rattle.errors.specs.Refusals.{Refusal, refuses, refusesInRangeError, refusal, ofParse}
+use Rattle.errors.specs.declared.ParseDateTimeError.{ParseDateTimeError}
+use Rattle.calendar.specs.Walk.{Valid, date, monthLength}
+use Rattle.counts.specs.declared.TimeAnswer.{TimeAnswer}
+use Rattle.counts.specs.declared.DateTimeAnswer.{DateTimeAnswer}
+use Rattle.counts.specs.declared.SecsAnswer.{SecsAnswer}
+use Rattle.counts.specs.declared.UnixAnswer.{UnixAnswer}
+use Rattle.counts.specs.declared.DurationAnswer.{DurationAnswer}
+use Rattle.counts.specs.declared.OrderingAnswer.{OrderingAnswer}
+use Rattle.counts.specs.Said.{saidTime, saidSecs, saidDateTime, saidUnix, saidDuration, saidOrdering}
+use Rattle.counts.specs.Counts.{newTime, fromDateTime, fromUnix, toUnix, overEpoch, added, taken, since, compared}
+use Rattle.reader.specs.declared.date_time.DateTime.{DateTime}
+use Rattle.reader.specs.declared.date_time.Parsed.the-variants.{Fields, Refused}
+use Rattle.reader.specs.declared.stamp.ReadAnswer.{ReadAnswer}
+use Rattle.reader.specs.Text.{parsed}
+use Rattle.reader.specs.Stamp.{saidRead, readText}
+use Rattle.printer.specs.declared.Printed.{Printed}
+use Rattle.printer.specs.declared.Precision.{Precision}
+use Rattle.printer.specs.Line.{said}
+use Rattle.printer.specs.Display.{timeText, displayed}
+use Rattle.printer.proofs.Line.{said-one}
+use Rattle.demands.specs.Refused.{OnlyRefuses}
+use Rattle.demands.proofs.Answers.{time-one, date-time-answer-one, secs-one, unix-one, duration-one, ordering-one, read-one}
+use Rattle.demands.proofs.RefusalsOf.{new-only, from-date-only, from-unix-only, to-unix-only, over-epoch-only, added-only, taken-only, since-only, compared-only, read-only, displayed-only}
+use Rattle.demands.proofs.NanosFirst.{first, either}
+use Rattle.demands.proofs.DatesOrder.{month-first, day-second, hour-third, minute-fourth, second-fifth, nanosecond-sixth}
+use Rattle.demands.proofs.TextFirst.{text-refused, read-whole}
+use Rattle.demands.proofs.Lines.{refusal-leaves, bad-nanos, start-outside, no-room}
+
+-- ---- No two answers of an entry say the same, so no two meet its promise.
+-- of new, try_from_unix_timestamp, to_tai_time, checked_add and checked_sub
+pub one-time-answer : (a b : TimeAnswer) → saidTime a ≡ saidTime b → a ≡ b
+one-time-answer = time-one
+
+-- of try_from_date_time
+pub one-date-time-answer : (a b : DateTimeAnswer) → saidDateTime a ≡ saidDateTime b → a ≡ b
+one-date-time-answer = date-time-answer-one
+
+-- of date_time_secs, which the reader shares with it
+pub one-secs-answer : (a b : SecsAnswer) → saidSecs a ≡ saidSecs b → a ≡ b
+one-secs-answer = secs-one
+
+-- of as_unix_secs
+pub one-unix-answer : (a b : UnixAnswer) → saidUnix a ≡ saidUnix b → a ≡ b
+one-unix-answer = unix-one
+
+-- of checked_duration_since
+pub one-duration-answer : (a b : DurationAnswer) → saidDuration a ≡ saidDuration b → a ≡ b
+one-duration-answer = duration-one
+
+-- of cmp
+pub one-ordering-answer : (a b : OrderingAnswer) → saidOrdering a ≡ saidOrdering b → a ≡ b
+one-ordering-answer = ordering-one
+
+-- of from_str
+pub one-read-answer : (a b : ReadAnswer) → saidRead a ≡ saidRead b → a ≡ b
+one-read-answer = read-one
+
+-- of display
+pub one-printed-answer : (a b : Printed) → said a ≡ said b → a ≡ b
+one-printed-answer = said-one
+
+-- ---- A refusal has one of the numbers that document 01 gives to its entry.
+-- new: 11
+pub new-refuses : (secs : ℤ) (nanos : ℕ) → OnlyRefuses (11 ∷ []) [] (newTime secs nanos)
+new-refuses = new-only
+
+-- a date: 0 to 6
+pub date-refuses : (epoch year : ℤ) (month day hour min sec nano : ℕ) → OnlyRefuses (0 ∷ 1 ∷ 2 ∷ 3 ∷ 4 ∷ 5 ∷ 6 ∷ []) [] (fromDateTime epoch year month day hour min sec nano)
+date-refuses = from-date-only
+
+-- Unix to timestamp: 10
+pub from-unix-refuses : (epoch unix : ℤ) (nanos : ℕ) (leap : ℤ) → OnlyRefuses (10 ∷ []) [] (fromUnix epoch unix nanos leap)
+from-unix-refuses = from-unix-only
+
+-- timestamp to Unix: 11 or 10
+pub to-unix-refuses : (epoch secs : ℤ) (nanos : ℕ) (leap : ℤ) → OnlyRefuses (11 ∷ 10 ∷ []) [] (toUnix epoch secs nanos leap)
+to-unix-refuses = to-unix-only
+
+-- change of epoch: 11 or 10
+pub over-epoch-refuses : (old new secs : ℤ) (nanos : ℕ) → OnlyRefuses (11 ∷ 10 ∷ []) [] (overEpoch old new secs nanos)
+over-epoch-refuses = over-epoch-only
+
+-- adding, subtracting, differencing: 11 or 10
+pub added-refuses : (secs : ℤ) (nanos dsecs dnanos : ℕ) → OnlyRefuses (11 ∷ 10 ∷ []) [] (added secs nanos dsecs dnanos)
+added-refuses = added-only
+
+pub taken-refuses : (secs : ℤ) (nanos dsecs dnanos : ℕ) → OnlyRefuses (11 ∷ 10 ∷ []) [] (taken secs nanos dsecs dnanos)
+taken-refuses = taken-only
+
+pub since-refuses : (secs : ℤ) (nanos : ℕ) (secs′ : ℤ) (nanos′ : ℕ) → OnlyRefuses (11 ∷ 10 ∷ []) [] (since secs nanos secs′ nanos′)
+since-refuses = since-only
+
+-- comparing: 11
+pub compared-refuses : (secs : ℤ) (nanos : ℕ) (secs′ : ℤ) (nanos′ : ℕ) → OnlyRefuses (11 ∷ []) [] (compared secs nanos secs′ nanos′)
+compared-refuses = compared-only
+
+-- reading: 7, 8 or 9, or 0 to 6 inside a RangeError
+pub read-refuses : (limit : ℕ) (epoch : ℤ) (text : List ℕ) → OnlyRefuses (7 ∷ 8 ∷ 9 ∷ []) (0 ∷ 1 ∷ 2 ∷ 3 ∷ 4 ∷ 5 ∷ 6 ∷ []) (readText limit epoch text)
+read-refuses = read-only
+
+module _ (secs : ℤ) (nanos : ℕ) (epoch : ℤ) (precision : Precision) (line : List ℕ) (at : ℕ) where
+  -- printing: 11, 12 or 13
+  pub displayed-refuses : OnlyRefuses (11 ∷ 12 ∷ 13 ∷ []) [] (displayed secs nanos epoch precision line at .0)
+  displayed-refuses = displayed-only secs nanos epoch precision line at
+
+  -- A refusal of printing leaves every byte of the line.
+  pub refusal-leaves-the-line : {r : Refusal} → displayed secs nanos epoch precision line at .0 ≡ refuses r → displayed secs nanos epoch precision line at .1 ≡ line
+  refusal-leaves-the-line = refusal-leaves secs nanos epoch precision line at
+
+  -- ---- The order of checks: 11 goes before 12 and 13,
+  pub bad-nanos-before-the-line : 1000000000 ≤ nanos → displayed secs nanos epoch precision line at ≡ (refuses (refusal 11 []), line)
+  bad-nanos-before-the-line = bad-nanos secs nanos epoch precision line at
+
+  -- 12 before 13,
+  pub start-outside-before-no-room : nanos < 1000000000 → length line < at → displayed secs nanos epoch precision line at ≡ (refuses (refusal 12 []), line)
+  start-outside-before-no-room = start-outside secs nanos epoch precision line at
+
+  -- and 13 comes last, where the text is longer than what is left.
+  pub no-room-last : nanos < 1000000000 → at ≤ length line → length line < at + length (timeText secs nanos epoch precision) → displayed secs nanos epoch precision line at ≡ (refuses (refusal 13 []), line)
+  no-room-last = no-room secs nanos epoch precision line at
+
+-- 11 goes before 10, whichever of the given timestamps and durations has bad nanoseconds.
+module _ (secs : ℤ) (nanos : ℕ) where
+  pub bad-nanos-of-new : 1000000000 ≤ nanos → newTime secs nanos ≡ refuses (refusal 11 [])
+  unfolding newTime
+  bad-nanos-of-new = first nanos _
+
+  pub bad-nanos-to-unix : (epoch leap : ℤ) → 1000000000 ≤ nanos → toUnix epoch secs nanos leap ≡ refuses (refusal 11 [])
+  unfolding toUnix
+  bad-nanos-to-unix epoch leap = first nanos _
+
+  pub bad-nanos-over-epoch : (old new : ℤ) → 1000000000 ≤ nanos → overEpoch old new secs nanos ≡ refuses (refusal 11 [])
+  unfolding overEpoch
+  bad-nanos-over-epoch old new = first nanos _
+
+  pub bad-nanos-added : (dsecs dnanos : ℕ) → (1000000000 ≤ nanos) ⊎ (1000000000 ≤ dnanos) → added secs nanos dsecs dnanos ≡ refuses (refusal 11 [])
+  unfolding added
+  bad-nanos-added dsecs dnanos = either nanos dnanos _
+
+  pub bad-nanos-taken : (dsecs dnanos : ℕ) → (1000000000 ≤ nanos) ⊎ (1000000000 ≤ dnanos) → taken secs nanos dsecs dnanos ≡ refuses (refusal 11 [])
+  unfolding taken
+  bad-nanos-taken dsecs dnanos = either nanos dnanos _
+
+  pub bad-nanos-since : (secs′ : ℤ) (nanos′ : ℕ) → (1000000000 ≤ nanos) ⊎ (1000000000 ≤ nanos′) → since secs nanos secs′ nanos′ ≡ refuses (refusal 11 [])
+  unfolding since
+  bad-nanos-since secs′ nanos′ = either nanos nanos′ _
+
+  pub bad-nanos-compared : (secs′ : ℤ) (nanos′ : ℕ) → (1000000000 ≤ nanos) ⊎ (1000000000 ≤ nanos′) → compared secs nanos secs′ nanos′ ≡ refuses (refusal 11 [])
+  unfolding compared
+  bad-nanos-compared secs′ nanos′ = either nanos nanos′ _
+
+module _ (limit : ℕ) (epoch : ℤ) (text : List ℕ) where
+  -- A text error beats a date error: it is the answer whatever the epoch and the fields,
+  pub text-error-first : {e : ParseDateTimeError} → parsed limit text ≡ Refused e → readText limit epoch text ≡ ofParse e
+  text-error-first = text-refused limit epoch text
+
+  -- and a date error says that the whole text was read, and is the one that the fields give.
+  pub date-error-last : {r : Refusal} → readText limit epoch text ≡ refusesInRangeError r
+      → (f : DateTime) × (parsed limit text ≡ Fields f) × (fromDateTime epoch (f .year) (f .month) (f .day) (f .hour) (f .min) (f .sec) (f .nano) ≡ refuses r)
+  date-error-last = read-whole limit epoch text
+
+-- Dates check 0 to 6 in order: the month whatever the rest is, then the day,
+module _ (epoch year : ℤ) (month day hour min sec nano : ℕ) where
+  pub month-is-0 : (month < 1) ⊎ (12 < month) → fromDateTime epoch year month day hour min sec nano ≡ refuses (refusal 0 (pos month ∷ []))
+  month-is-0 = month-first epoch year month day hour min sec nano
+
+  pub day-is-1 : 1 ≤ month → month ≤ 12 → (day < 1) ⊎ (monthLength year month < day) → fromDateTime epoch year month day hour min sec nano ≡ refuses (refusal 1 (pos day ∷ []))
+  day-is-1 = day-second epoch year month day hour min sec nano
+
+-- and for a date that exists, hour, minute, second and nanosecond (Demand3, date-out-of-range, has 6).
+module _ (epoch year : ℤ) (month day hour min sec nano : ℕ) (v : Valid (date year month day)) where
+  pub hour-is-2 : 23 < hour → fromDateTime epoch year month day hour min sec nano ≡ refuses (refusal 2 (pos hour ∷ []))
+  hour-is-2 = hour-third epoch year month day hour min sec nano v
+
+  pub minute-is-3 : hour ≤ 23 → 59 < min → fromDateTime epoch year month day hour min sec nano ≡ refuses (refusal 3 (pos min ∷ []))
+  minute-is-3 = minute-fourth epoch year month day hour min sec nano v
+
+  pub second-is-4 : hour ≤ 23 → min ≤ 59 → 59 < sec → fromDateTime epoch year month day hour min sec nano ≡ refuses (refusal 4 (pos sec ∷ []))
+  second-is-4 = second-fifth epoch year month day hour min sec nano v
+
+  pub nanosecond-is-5 : hour ≤ 23 → min ≤ 59 → sec ≤ 59 → 1000000000 ≤ nano → fromDateTime epoch year month day hour min sec nano ≡ refuses (refusal 5 (pos nano ∷ []))
+  nanosecond-is-5 = nanosecond-sixth epoch year month day hour min sec nano v
