@@ -1,0 +1,7 @@
+pub mod Splits
+pub mod Puts
+pub mod Decimal
+pub mod Hexes
+pub mod Rests
+pub mod Asks
+pub mod Prints

@@ -1,0 +1,37 @@
+use mathlib.Core.Path.{_≡_, ap, _∙_}
+use mir.Facts.{toZ-ofZ}
+use mir.Syntax.{w64}
+use mir.Val.{SFits}
+use Rattle.errors.specs.Refusals.{gives}
+use Rattle.desk.specs.Texts.{integer}
+use Rattle.desk.specs.Answers.{line, timeLine, durationLine, orderText}
+use borrow.Author.Needs.{needs}
+use Rattle.desk.proofs.said.read.Statement.{statement}
+use Rattle.desk.proofs.said.read.Tie as tie
+use Rattle.desk.proofs.said.read.Reads as reads
+use Rattle.desk.proofs.said.read.Lts as lts
+use Rattle.desk.proofs.said.of_parse.Reads as of-parse-reads
+
+-- src/said.rt:132:24
+enum-known-a : tie.Need-enum-known-a
+enum-known-a c = search needs
+
+-- src/said.rt:133:29
+enum-known-a-2 : tie.Need-enum-known-a-2
+enum-known-a-2 c = search needs
+
+-- src/said.rt:133:49
+of-parse-requires : tie.Need-of-parse-requires
+of-parse-requires c κs = search needs
+
+-- src/said.rt:128:1
+returns : tie.Need-returns
+returns c = let t = c .before .before .a .given .0 .0 in let f : SFits w64 (t .secs) = search needs in ap (λ x. timeLine (gives (x, t .nanos))) (toZ-ofZ {w = w64} f) ∙ rw (c .before .before .a .given .1)
+
+-- src/said.rt:128:1
+returns-2 : tie.Need-returns-2
+unfolding line
+returns-2 c = rw (c .before .before .a2 .given .1) (c .of-parse .ensures)
+
+pub read-spec : {M : Type 1} → statement M
+read-spec = tie.close (tie.spec enum-known-a enum-known-a-2 of-parse-requires returns returns-2)

@@ -1,0 +1,53 @@
+-- The numbers of a request, and what stands for one.
+use mathlib.Core.Bool.{Bool, true, false, cond, _&&_}
+use mathlib.Core.List.{List}
+use Prim.Native.Nat.{ℕ, zero, suc, _+_}
+use lib.Dec.{ltb}
+use lib.IntN.{ℤ, pos, negsuc}
+use lib.ListN.{length, drop}
+use Rattle.printer.specs.declared.Precision.the-variants.{Default, Digits}
+use Rattle.reader.specs.Numbers.{beginsWith, digitsUpTo}
+use Rattle.reader.specs.declared.numbers.Number.{Number}
+use Rattle.reader.specs.declared.numbers.Number.the-variants as Number
+use Rattle.desk.specs.Words.{bytes, alike}
+use Rattle.desk.specs.declared.numbers.Signed.{Signed}
+use Rattle.desk.specs.declared.numbers.Signed.the-variants.{Value, Bad}
+use Rattle.desk.specs.declared.numbers.Precise.{Precise}
+use Rattle.desk.specs.declared.numbers.Precise.the-variants as Precise
+
+-- a number of an unsigned type: digits, at least one, of a value up to the limit, and no needless zero (`0` is 48)
+unfoldable pub unsigned : ℕ → List ℕ → Number
+unsigned limit s = cond (beginsWith 48 s && ltb 1 (length s)) Number.Bad (digitsUpTo limit s)
+
+-- a number as it is
+abbrev pub above : Number → Signed
+above (Number.Value n) = Value (pos n)
+above Number.Bad = Bad
+
+-- a number behind `-`, which is not 0
+abbrev pub below : Number → Signed
+below (Number.Value zero) = Bad
+below (Number.Value (suc n)) = Value (negsuc n)
+below Number.Bad = Bad
+
+-- a number of a signed type from -top - 1 to top (`-` is 45)
+unfoldable pub signed : ℕ → List ℕ → Signed
+signed top s = cond (beginsWith 45 s) (below (unsigned (top + 1) (drop 1 s))) (above (unsigned top s))
+
+-- an epoch: one of the six names, or an i64
+unfoldable pub epoch : List ℕ → Signed
+epoch s =
+    cond (alike s (bytes "monotonic")) (Value (pos 0))
+    (cond (alike s (bytes "gps")) (Value (pos 315964819))
+    (cond (alike s (bytes "gst")) (Value (pos 935280019))
+    (cond (alike s (bytes "bdt")) (Value (pos 1136073633))
+    (cond (alike s (bytes "tai1958")) (Value (negsuc 378691199))
+    (cond (alike s (bytes "tai1972")) (Value (pos 63072000)) (signed 9223372036854775807 s))))))
+
+abbrev pub digits : Number → Precise
+digits (Number.Value n) = Precise.Value (Digits n)
+digits Number.Bad = Precise.Bad
+
+-- a precision: `-` for absent, or a u64
+unfoldable pub precision : List ℕ → Precise
+precision s = cond (alike s (bytes "-")) (Precise.Value Default) (digits (unsigned 18446744073709551615 s))
