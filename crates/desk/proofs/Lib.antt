@@ -5,3 +5,4 @@ pub mod Hexes
 pub mod Rests
 pub mod Asks
 pub mod Prints
+pub mod Answered

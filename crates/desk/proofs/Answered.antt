@@ -1,0 +1,24 @@
+-- What an answer is at each length of the request and of the lent bytes.
+use mathlib.Core.Path.{_≡_, ap}
+use mathlib.Core.Bool.{Bool, true, false, cond}
+use mathlib.Core.List.{List, [], _∷_, _++_}
+use Prim.Native.Nat.{ℕ, _+_, _≤_, _<_}
+use native.Mathlib.Omega.{arith}
+use lib.Dec.{ltb}
+use lib.ListN.{length, drop, length-append, length-drop}
+use borrow.Author.Tests.{lt-ltb, le-ltb}
+use Rattle.desk.specs.Requests.{requestOf}
+use Rattle.desk.specs.Answers.{malformed, answerText, answered}
+
+pub answered-front : (s out : List ℕ) → length s + 128 ≤ length out
+    → answered s out ≡ (length (answerText s ++ (10 ∷ [])), (answerText s ++ (10 ∷ [])) ++ drop (length (answerText s ++ (10 ∷ []))) out)
+unfolding answered
+answered-front s out h = rw (le-ltb (length out) (length s + 128) h)
+
+pub answered-none : (s out : List ℕ) → length out < length s + 128 → answered s out ≡ (0, out)
+unfolding answered
+answered-none s out h = rw (lt-ltb (length out) (length s + 128) h)
+
+pub answer-too-long : (s : List ℕ) → 65535 < length s → answerText s ≡ malformed
+unfolding answerText requestOf
+answer-too-long s h = rw (lt-ltb 65535 (length s) h)
