@@ -7,7 +7,7 @@ ghost use lib.ListN.{length, take};
 ghost use Rattle.desk.specs.Hex.{digitValue, isHex, hexBytes, unhexed, digitOf, hexText};
 ghost use Rattle.desk.specs.Texts.{Put};
 
-pub enum Unhexed {
+pub(crate) enum Unhexed {
     Length(usize),
     Bad,
 }
@@ -43,7 +43,7 @@ fn digit(value: u8) -> u8
 }
 
 // The bytes that the digits in hex stand for, at the front of bytes, and how many they are.
-pub fn unhex(hex: &[u8], bytes: &mut [u8]) -> Unhexed
+pub(crate) fn unhex(hex: &[u8], bytes: &mut [u8]) -> Unhexed
     requires { ⌜ length (now hex) ≤ 2 * length (now bytes) ⌝ }
     ensures { λ r. ⌜ r ≡ unhexed (now (hex .entry)) ⌝ }
     ensures { λ _. ⌜ (isHex (now (hex .entry)) ≡ true → take (length (hexBytes (now (hex .entry)))) (now (bytes .exit)) ≡ hexBytes (now (hex .entry))) ⌝ }
@@ -76,7 +76,7 @@ pub fn unhex(hex: &[u8], bytes: &mut [u8]) -> Unhexed
 }
 
 // The HEX of bytes, from at on, and the place behind it.
-pub fn put_hex(out: &mut [u8], at: usize, bytes: &[u8]) -> usize
+pub(crate) fn put_hex(out: &mut [u8], at: usize, bytes: &[u8]) -> usize
     requires { ⌜ at + 2 * length (now bytes) < length (now out) ⌝ }
     ensures { λ r. ⌜ Put (now (out .entry)) at (hexText (now (bytes .entry))) (now (out .exit)) r ⌝ }
     ensures { λ r. ⌜ r ≤ at + 2 * length (now (bytes .entry)) + 1 ⌝ }

@@ -1,12 +1,12 @@
 // The desk program's requests and answers: one request, one line.
 mod answers; // a request to its answer
 mod fields; // a blank and the word behind it
-pub mod hex; // bytes as hexadecimal digits
+mod hex; // bytes as hexadecimal digits
 mod lines; // what an entry answered, written
-pub mod numbers; // decimal numbers, read
+mod numbers; // decimal numbers, read
 mod requests; // what a request asks
 mod said; // what an entry answered, in one form
-pub mod texts; // texts and numbers, written
-pub mod words; // words between blanks
+mod texts; // texts and numbers, written
+mod words; // words between blanks
 
 pub use answers::answer;

@@ -10,12 +10,12 @@ ghost use mathlib.Core.Path.{_≡_};
 ghost use Prim.Native.Nat.{_^_, _<_};
 ghost use Rattle.desk.specs.Numbers.{unsigned, signed, epoch, precision};
 
-pub enum Signed {
+pub(crate) enum Signed {
     Value(i64),
     Bad,
 }
 
-pub enum Precise {
+pub(crate) enum Precise {
     Value(Precision),
     Bad,
 }
@@ -24,7 +24,7 @@ pub enum Precise {
 pub(crate) const TOP: u64 = 9223372036854775807;
 
 // A number of an unsigned type whose top is the limit. The reader would let a `+` in.
-pub fn parse_unsigned(s: &[u8], limit: u64) -> Number
+pub(crate) fn parse_unsigned(s: &[u8], limit: u64) -> Number
     ensures { λ r. ⌜ r ≡ unsigned limit (now (s .entry)) ⌝ }
 {
     if begins_with(s, b'+') {
@@ -39,7 +39,7 @@ pub fn parse_unsigned(s: &[u8], limit: u64) -> Number
 }
 
 // A number of a signed type from -top - 1 to top.
-pub fn parse_signed(s: &[u8], top: u64) -> Signed
+pub(crate) fn parse_signed(s: &[u8], top: u64) -> Signed
     requires { ⌜ top < 2 ^ 63 ⌝ }
     ensures { λ r. ⌜ r ≡ signed top (now (s .entry)) ⌝ }
 {
@@ -59,7 +59,7 @@ pub fn parse_signed(s: &[u8], top: u64) -> Signed
 }
 
 // An epoch by its name or its number.
-pub fn parse_epoch(s: &[u8]) -> Signed
+pub(crate) fn parse_epoch(s: &[u8]) -> Signed
     ensures { λ r. ⌜ r ≡ epoch (now (s .entry)) ⌝ }
 {
     if same(s, b"monotonic") {
@@ -84,7 +84,7 @@ pub fn parse_epoch(s: &[u8]) -> Signed
 }
 
 // `-` for absent.
-pub fn parse_precision(s: &[u8]) -> Precise
+pub(crate) fn parse_precision(s: &[u8]) -> Precise
     ensures { λ r. ⌜ r ≡ precision (now (s .entry)) ⌝ }
 {
     if same(s, b"-") {

@@ -8,7 +8,7 @@ ghost use Rattle.desk.specs.Words.{bytes};
 ghost use Rattle.desk.specs.Texts.{natural, integer, Put};
 
 // The text, as it is.
-pub fn put(out: &mut [u8], at: usize, text: &[u8]) -> usize
+pub(crate) fn put(out: &mut [u8], at: usize, text: &[u8]) -> usize
     requires { ⌜ at + length (now text) ≤ length (now out) ⌝ }
     ensures { λ r. ⌜ Put (now (out .entry)) at (now (text .entry)) (now (out .exit)) r ⌝ }
 {
@@ -36,7 +36,7 @@ fn width(n: u64) -> usize
     w
 }
 
-pub fn put_natural(out: &mut [u8], at: usize, n: u64) -> usize
+pub(crate) fn put_natural(out: &mut [u8], at: usize, n: u64) -> usize
     requires { ⌜ at + 20 ≤ length (now out) ⌝ }
     ensures { λ r. ⌜ Put (now (out .entry)) at (natural n) (now (out .exit)) r ⌝ }
     ensures { λ r. ⌜ r ≤ at + 20 ⌝ }
@@ -52,7 +52,7 @@ pub fn put_natural(out: &mut [u8], at: usize, n: u64) -> usize
     at + w
 }
 
-pub fn put_integer(out: &mut [u8], at: usize, n: i64) -> usize
+pub(crate) fn put_integer(out: &mut [u8], at: usize, n: i64) -> usize
     requires { ⌜ at + 21 ≤ length (now out) ⌝ }
     ensures { λ r. ⌜ Put (now (out .entry)) at (integer n) (now (out .exit)) r ⌝ }
     ensures { λ r. ⌜ r ≤ at + 21 ⌝ }
@@ -64,7 +64,7 @@ pub fn put_integer(out: &mut [u8], at: usize, n: i64) -> usize
     put_natural(out, at, n as u64)
 }
 
-pub fn put_behind_blank(out: &mut [u8], at: usize, n: u64) -> usize
+pub(crate) fn put_behind_blank(out: &mut [u8], at: usize, n: u64) -> usize
     requires { ⌜ at + 21 ≤ length (now out) ⌝ }
     ensures { λ r. ⌜ Put (now (out .entry)) at (bytes " " ++ natural n) (now (out .exit)) r ⌝ }
     ensures { λ r. ⌜ r ≤ at + 21 ⌝ }

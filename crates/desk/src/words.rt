@@ -5,7 +5,7 @@ ghost use lib.ListN.{length};
 ghost use Rattle.desk.specs.Words.{wordLength, alike};
 
 // How many bytes stand before the first blank.
-pub fn word_length(s: &[u8]) -> usize
+pub(crate) fn word_length(s: &[u8]) -> usize
     ensures { λ r. ⌜ r ≡ wordLength (now (s .entry)) ⌝ }
     ensures { λ r. ⌜ r ≤ length (now (s .entry)) ⌝ }
 {
@@ -19,7 +19,7 @@ pub fn word_length(s: &[u8]) -> usize
     i
 }
 
-pub fn same(s: &[u8], t: &[u8]) -> bool
+pub(crate) fn same(s: &[u8], t: &[u8]) -> bool
     ensures { λ r. ⌜ r ≡ alike (now (s .entry)) (now (t .entry)) ⌝ }
 {
     if s.len() != t.len() {
