@@ -17,8 +17,8 @@ use Rattle.desk.specs.Texts.{natural, integer, names}
 use Rattle.desk.specs.Requests.{requestOf}
 use Rattle.desk.specs.declared.requests.Request.{Request}
 use Rattle.desk.specs.declared.requests.Request.the-variants.{Counts, Read, ReadHex, Print, Line, Malformed}
-use Rattle.desk.specs.declared.requests.Count.{Count}
-use Rattle.desk.specs.declared.requests.Count.the-variants.{New, Date, Unix, ToUnix, Epoch, Add, Sub, Since, Compare}
+use Rattle.desk.specs.declared.count.Count.{Count}
+use Rattle.desk.specs.declared.count.Count.the-variants.{New, Date, Unix, ToUnix, Epoch, Add, Sub, Since, Compare}
 
 -- a refusal's values, each behind a blank
 abbrev pub valuesText : List ℤ → List ℕ

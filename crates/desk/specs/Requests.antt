@@ -1,7 +1,8 @@
 -- What a request asks: the table of the desk program's verbs. Each stage reads the rest that the one before it left.
 use mathlib.Core.Bool.{Bool, true, false, cond}
-use mathlib.Core.List.{List}
+use mathlib.Core.List.{List, [], _∷_}
 use Prim.Native.Nat.{ℕ, _+_}
+use Prim.Native.String.{String}
 use lib.Dec.{ltb, eqb}
 use lib.IntN.{ℤ}
 use lib.ListN.{length, take, drop}
@@ -11,11 +12,11 @@ use Rattle.desk.specs.Words.{bytes, wordLength, alike}
 use Rattle.desk.specs.Fields.{wholeField, epochField, naturalField, precisionField, stampField, onWhole, onNatural, onDigits, onStamp}
 use Rattle.desk.specs.declared.requests.Request.{Request}
 use Rattle.desk.specs.declared.requests.Request.the-variants.{Counts, Read, ReadHex, Print, Line, Malformed}
-use Rattle.desk.specs.declared.requests.Count.the-variants.{New, Date, Unix, ToUnix, Epoch, Add, Sub, Since, Compare}
-use Rattle.desk.specs.declared.requests.DateFields.{DateFields}
-use Rattle.desk.specs.declared.requests.DateFields.the-variants as DateFields
-use Rattle.desk.specs.declared.requests.TimeFields.{TimeFields}
-use Rattle.desk.specs.declared.requests.TimeFields.the-variants as TimeFields
+use Rattle.desk.specs.declared.count.Count.the-variants.{New, Date, Unix, ToUnix, Epoch, Add, Sub, Since, Compare}
+use Rattle.desk.specs.declared.count.DateFields.{DateFields}
+use Rattle.desk.specs.declared.count.DateFields.the-variants as DateFields
+use Rattle.desk.specs.declared.count.TimeFields.{TimeFields}
+use Rattle.desk.specs.declared.count.TimeFields.the-variants as TimeFields
 use Rattle.desk.specs.declared.requests.PrintFields.{PrintFields}
 use Rattle.desk.specs.declared.requests.PrintFields.the-variants as PrintFields
 
@@ -119,23 +120,41 @@ lineRequest before s =
     onNatural (naturalField 18446744073709551615 s) s Malformed λ at m s.
     atBlank s (Line epoch secs nanos precision at (before + n + m + 1))
 
--- the verb, and what stands behind it
-abbrev pub byVerb : List ℕ → ℕ → List ℕ → Request
-byVerb verb n s =
-    cond (alike verb (bytes "print")) (printRequest s)
-    (cond (alike verb (bytes "read")) (readRequest n false s)
-    (cond (alike verb (bytes "new")) (newRequest s)
-    (cond (alike verb (bytes "date")) (dateRequest s)
-    (cond (alike verb (bytes "unix")) (unixRequest false s)
-    (cond (alike verb (bytes "to-unix")) (unixRequest true s)
-    (cond (alike verb (bytes "epoch")) (epochRequest s)
-    (cond (alike verb (bytes "add")) (sumRequest false s)
-    (cond (alike verb (bytes "sub")) (sumRequest true s)
-    (cond (alike verb (bytes "since")) (pairRequest false s)
-    (cond (alike verb (bytes "compare")) (pairRequest true s)
-    (cond (alike verb (bytes "read-hex")) (readRequest n true s)
-    (cond (alike verb (bytes "line")) (lineRequest n s) Malformed))))))))))))
+-- the request in the verb's row of a table, or another
+abbrev pub byVerb : List ℕ → Request → List (String × Request) → Request
+byVerb verb other [] = other
+byVerb verb other (row ∷ rows) = cond (alike verb (bytes (row .0))) (row .1) (byVerb verb other rows)
+
+-- the verbs on counts, and what stands behind each
+abbrev pub countVerbs : List ℕ → List (String × Request)
+countVerbs s =
+    ("new", newRequest s)
+    ∷ ("date", dateRequest s)
+    ∷ ("unix", unixRequest false s)
+    ∷ ("to-unix", unixRequest true s)
+    ∷ ("epoch", epochRequest s)
+    ∷ ("add", sumRequest false s)
+    ∷ ("sub", sumRequest true s)
+    ∷ ("since", pairRequest false s)
+    ∷ ("compare", pairRequest true s)
+    ∷ []
+
+unfoldable pub countRequest : List ℕ → List ℕ → Request
+countRequest verb s = byVerb verb Malformed (countVerbs s)
+
+-- the verbs on texts, n bytes of the request before what stands behind each
+abbrev pub textVerbs : ℕ → List ℕ → List (String × Request)
+textVerbs n s =
+    ("print", printRequest s)
+    ∷ ("read", readRequest n false s)
+    ∷ ("read-hex", readRequest n true s)
+    ∷ ("line", lineRequest n s)
+    ∷ []
+
+-- what n bytes of a verb ask of the rest s
+abbrev pub verbRequest : List ℕ → ℕ → List ℕ → Request
+verbRequest verb n s = byVerb verb (countRequest verb s) (textVerbs n s)
 
 -- what a request asks: nothing longer than 65,535 bytes is one
 unfoldable pub requestOf : List ℕ → Request
-requestOf s = cond (ltb 65535 (length s)) Malformed (byVerb (take (wordLength s) s) (wordLength s) (drop (wordLength s) s))
+requestOf s = cond (ltb 65535 (length s)) Malformed (verbRequest (take (wordLength s) s) (wordLength s) (drop (wordLength s) s))

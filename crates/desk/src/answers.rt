@@ -1,10 +1,10 @@
 // A request to its answer.
+use crate::count::Count;
 use crate::hex::Unhexed;
 use crate::hex::put_hex;
 use crate::hex::unhex;
 use crate::lines::put_refusal;
 use crate::lines::put_said;
-use crate::requests::Count;
 use crate::requests::Request;
 use crate::requests::asked;
 use crate::said;

@@ -1,5 +1,6 @@
 // The desk program's requests and answers: one request, one line.
 mod answers; // a request to its answer
+mod count; // what a request on counts asks
 mod fields; // a blank and the word behind it
 mod hex; // bytes as hexadecimal digits
 mod lines; // what an entry answered, written

@@ -11,41 +11,30 @@ use Rattle.desk.proofs.Puts.{put-one, put-front}
 use borrow.Author.Needs.{needs}
 use Rattle.desk.proofs.answers.answer.Statement.{statement}
 use Rattle.desk.proofs.answers.answer.Tie as tie
-use Rattle.desk.proofs.answers.answer.Reads as reads
-use Rattle.desk.proofs.answers.answer.Lts as lts
-use Rattle.desk.proofs.answers.put_answer.Reads as put-answer-reads
 
--- src/answers.rt:238:9
 returns : tie.Need-returns
 unfolding answered
 returns c = (rw (lt-ltb (length (c .before .before .before .args .out .now)) (length (c .before .before .before .args .request .now) + 128) (omega arith)), omega arith)
 
--- src/answers.rt:240:8
 sub-if2 : tie.Need-sub-if2
 sub-if2 c = search needs
 
--- src/answers.rt:241:9
 returns-2 : tie.Need-returns-2
 unfolding answered
 returns-2 c = (rw (lt-ltb (length (c .before .before .before .before .args .out .now)) (length (c .before .before .before .before .args .request .now) + 128) (omega arith)), omega arith)
 
--- src/answers.rt:243:9
 put-answer-requires : tie.Need-put-answer-requires
 put-answer-requires c κs = search needs
 
--- src/answers.rt:244:5
 slice-write-out : tie.Need-slice-write-out
 slice-write-out c = search needs
 
--- src/answers.rt:245:5
 add-result : tie.Need-add-result
 add-result c = search needs
 
--- src/answers.rt:234:1
 same-length : tie.Need-same-length
 same-length c = search needs
 
--- src/answers.rt:234:1
 returns-3 : tie.Need-returns-3
 unfolding answered
 returns-3 c = let k = put-on (c .before .before .put-answer .ensures .0) (put-one _ _ 10) in (rw (le-ltb (length (c .before .before .before .before .before .before .before .before .args .out .now)) (length (c .before .before .before .before .before .before .before .before .args .request .now) + 128) (omega arith)) (put-front k (omega (arith, k .place, c .before .before .put-answer .ensures .1))), omega (arith, c .before .before .put-answer .ensures .1))

@@ -7,164 +7,112 @@ use Rattle.desk.specs.Answers.{line, timeLine, durationLine, orderText}
 use borrow.Author.Needs.{needs}
 use Rattle.desk.proofs.answers.counted.Statement.{statement}
 use Rattle.desk.proofs.answers.counted.Tie as tie
-use Rattle.desk.proofs.answers.counted.Reads as reads
-use Rattle.desk.proofs.answers.counted.Lts as lts
-use Rattle.counts.proofs.TaiTime.as_unix_secs.Reads as as-unix-secs-reads
-use Rattle.counts.proofs.TaiTime.checked_add.Reads as checked-add-reads
-use Rattle.counts.proofs.TaiTime.checked_duration_since.Reads as checked-duration-since-reads
-use Rattle.counts.proofs.TaiTime.checked_sub.Reads as checked-sub-reads
-use Rattle.counts.proofs.TaiTime.cmp.Reads as cmp-reads
-use Rattle.counts.proofs.TaiTime.new.Reads as new-reads
-use Rattle.counts.proofs.TaiTime.to_tai_time.Reads as to-tai-time-reads
-use Rattle.counts.proofs.TaiTime.try_from_date_time.Reads as try-from-date-time-reads
-use Rattle.counts.proofs.TaiTime.try_from_unix_timestamp.Reads as try-from-unix-timestamp-reads
-use Rattle.desk.proofs.said.date_time.Reads as date-time-reads
-use Rattle.desk.proofs.said.duration.Reads as duration-reads
-use Rattle.desk.proofs.said.ordering.Reads as ordering-reads
-use Rattle.desk.proofs.said.time.Reads as time-reads
-use Rattle.desk.proofs.said.unix.Reads as unix-reads
 
--- src/answers.rt:115:20
 enum-known-count : tie.Need-enum-known-count
 enum-known-count c = search needs
 
--- src/answers.rt:115:47
 new-requires : tie.Need-new-requires
 new-requires c κs = search needs
 
--- src/answers.rt:115:36
 time-requires : tie.Need-time-requires
 time-requires c κs = search needs
 
--- src/answers.rt:116:21
 enum-known-count-2 : tie.Need-enum-known-count-2
 enum-known-count-2 c = search needs
 
--- src/answers.rt:118:29
 try-from-date-time-requires : tie.Need-try-from-date-time-requires
 try-from-date-time-requires c κs = search needs
 
--- src/answers.rt:118:13
 date-time-requires : tie.Need-date-time-requires
 date-time-requires c κs = search needs
 
--- src/answers.rt:129:21
 enum-known-count-3 : tie.Need-enum-known-count-3
 enum-known-count-3 c = search needs
 
--- src/answers.rt:131:24
 try-from-unix-timestamp-requires : tie.Need-try-from-unix-timestamp-requires
 try-from-unix-timestamp-requires c κs = search needs
 
--- src/answers.rt:131:13
 time-requires-2 : tie.Need-time-requires-2
 time-requires-2 c κs = search needs
 
--- src/answers.rt:138:23
 enum-known-count-4 : tie.Need-enum-known-count-4
 enum-known-count-4 c = search needs
 
--- src/answers.rt:140:24
 as-unix-secs-requires : tie.Need-as-unix-secs-requires
 as-unix-secs-requires c κs = search needs
 
--- src/answers.rt:140:13
 unix-requires : tie.Need-unix-requires
 unix-requires c κs = search needs
 
--- src/answers.rt:142:22
 enum-known-count-5 : tie.Need-enum-known-count-5
 enum-known-count-5 c = search needs
 
--- src/answers.rt:144:24
 to-tai-time-requires : tie.Need-to-tai-time-requires
 to-tai-time-requires c κs = search needs
 
--- src/answers.rt:144:13
 time-requires-3 : tie.Need-time-requires-3
 time-requires-3 c κs = search needs
 
--- src/answers.rt:146:20
 enum-known-count-6 : tie.Need-enum-known-count-6
 enum-known-count-6 c = search needs
 
--- src/answers.rt:148:24
 checked-add-requires : tie.Need-checked-add-requires
 checked-add-requires c κs = search needs
 
--- src/answers.rt:148:13
 time-requires-4 : tie.Need-time-requires-4
 time-requires-4 c κs = search needs
 
--- src/answers.rt:153:20
 enum-known-count-7 : tie.Need-enum-known-count-7
 enum-known-count-7 c = search needs
 
--- src/answers.rt:155:24
 checked-sub-requires : tie.Need-checked-sub-requires
 checked-sub-requires c κs = search needs
 
--- src/answers.rt:155:13
 time-requires-5 : tie.Need-time-requires-5
 time-requires-5 c κs = search needs
 
--- src/answers.rt:160:22
 enum-known-count-8 : tie.Need-enum-known-count-8
 enum-known-count-8 c = search needs
 
--- src/answers.rt:162:28
 checked-duration-since-requires : tie.Need-checked-duration-since-requires
 checked-duration-since-requires c κs = search needs
 
--- src/answers.rt:162:13
 duration-requires : tie.Need-duration-requires
 duration-requires c κs = search needs
 
--- src/answers.rt:167:24
 enum-known-count-9 : tie.Need-enum-known-count-9
 enum-known-count-9 c = search needs
 
--- src/answers.rt:169:28
 cmp-requires : tie.Need-cmp-requires
 cmp-requires c κs = search needs
 
--- src/answers.rt:169:13
 ordering-requires : tie.Need-ordering-requires
 ordering-requires c κs = search needs
 
--- src/answers.rt:111:1
 returns : tie.Need-returns
 returns c = let f0 : SFits w64 (c .before .before .before .count .given .0 .0) = search needs in rw (c .before .before .before .count .given .1) (c .time .ensures ∙ ap timeLine (simp toZ-ofZ at (c .before .new .ensures)))
 
--- src/answers.rt:111:1
 returns-2 : tie.Need-returns-2
 returns-2 c = let f0 : SFits w64 (c .before .before .before .count2 .given .0 .0) = search needs in let f1 : SFits w32 (c .before .before .before .count2 .given .0 .1 .0) = search needs in rw (c .before .before .before .count2 .given .1) (c .date-time .ensures ∙ ap timeLine (simp toZ-ofZ at (c .before .try-from-date-time .ensures)))
 
--- src/answers.rt:111:1
 returns-3 : tie.Need-returns-3
 returns-3 c = let f0 : SFits w64 (c .before .before .before .count3 .given .0 .0) = search needs in let f1 : SFits w64 (c .before .before .before .count3 .given .0 .1 .0) = search needs in let f2 : SFits w64 (c .before .before .before .count3 .given .0 .1 .1 .1 .0) = search needs in rw (c .before .before .before .count3 .given .1) (c .time2 .ensures ∙ ap timeLine (simp toZ-ofZ at (c .before .try-from-unix-timestamp .ensures)))
 
--- src/answers.rt:111:1
 returns-4 : tie.Need-returns-4
 returns-4 c = let f0 : SFits w64 (c .before .before .before .count4 .given .0 .0) = search needs in let f1 : SFits w64 (c .before .before .before .count4 .given .0 .1 .0) = search needs in let f2 : SFits w64 (c .before .before .before .count4 .given .0 .1 .1 .1 .0) = search needs in rw (c .before .before .before .count4 .given .1) (c .unix .ensures ∙ ap (line integer) (simp toZ-ofZ at (c .before .as-unix-secs .ensures)))
 
--- src/answers.rt:111:1
 returns-5 : tie.Need-returns-5
 returns-5 c = let f0 : SFits w64 (c .before .before .before .count5 .given .0 .0) = search needs in let f1 : SFits w64 (c .before .before .before .count5 .given .0 .1 .0) = search needs in let f2 : SFits w64 (c .before .before .before .count5 .given .0 .1 .1 .0) = search needs in rw (c .before .before .before .count5 .given .1) (c .time3 .ensures ∙ ap timeLine (simp toZ-ofZ at (c .before .to-tai-time .ensures)))
 
--- src/answers.rt:111:1
 returns-6 : tie.Need-returns-6
 returns-6 c = let f0 : SFits w64 (c .before .before .before .count6 .given .0 .0) = search needs in rw (c .before .before .before .count6 .given .1) (c .time4 .ensures ∙ ap timeLine (simp toZ-ofZ at (c .before .checked-add .ensures)))
 
--- src/answers.rt:111:1
 returns-7 : tie.Need-returns-7
 returns-7 c = let f0 : SFits w64 (c .before .before .before .count7 .given .0 .0) = search needs in rw (c .before .before .before .count7 .given .1) (c .time5 .ensures ∙ ap timeLine (simp toZ-ofZ at (c .before .checked-sub .ensures)))
 
--- src/answers.rt:111:1
 returns-8 : tie.Need-returns-8
 returns-8 c = let f0 : SFits w64 (c .before .before .before .count8 .given .0 .0) = search needs in let f1 : SFits w64 (c .before .before .before .count8 .given .0 .1 .1 .0) = search needs in rw (c .before .before .before .count8 .given .1) (c .duration .ensures ∙ ap durationLine (simp toZ-ofZ at (c .before .checked-duration-since .ensures)))
 
--- src/answers.rt:111:1
 returns-9 : tie.Need-returns-9
 returns-9 c = let f0 : SFits w64 (c .before .before .before .count9 .given .0 .0) = search needs in let f1 : SFits w64 (c .before .before .before .count9 .given .0 .1 .1 .0) = search needs in rw (c .before .before .before .count9 .given .1) (c .ordering .ensures ∙ ap (line orderText) (simp toZ-ofZ at (c .before .cmp .ensures)))
 

@@ -11,61 +11,43 @@ use Rattle.desk.proofs.Hexes.{no-hex, is-hex, hex-half}
 use borrow.Author.Needs.{needs}
 use Rattle.desk.proofs.answers.line.Statement.{statement}
 use Rattle.desk.proofs.answers.line.Tie as tie
-use Rattle.desk.proofs.answers.line.Reads as reads
-use Rattle.desk.proofs.answers.line.Lts as lts
-use Rattle.desk.proofs.answers.print_in.Reads as print-in-reads
-use Rattle.desk.proofs.hex.unhex.Reads as unhex-reads
-use Rattle.desk.proofs.texts.put.Reads as put-reads
 
--- src/answers.rt:104:41
 slice-aggregate-unhex : tie.Need-slice-aggregate-unhex
 slice-aggregate-unhex c = search needs
 
--- src/answers.rt:104:30
 unhex-requires : tie.Need-unhex-requires
 unhex-requires c κs = search needs
 
--- src/answers.rt:104:25
 enum-known-n : tie.Need-enum-known-n
 enum-known-n c = search needs
 
--- src/answers.rt:105:20
 enum-told : tie.Need-enum-told
 enum-told c = search needs
 
--- src/answers.rt:105:28
 slice-aggregate-put : tie.Need-slice-aggregate-put
 slice-aggregate-put c = search needs
 
--- src/answers.rt:105:9
 put-requires : tie.Need-put-requires
 put-requires c κs = search needs
 
--- src/answers.rt:105:9
 same-length : tie.Need-same-length
 same-length c = search needs
 
--- src/answers.rt:105:9
 returns : tie.Need-returns
 returns c = rw (no-hex _ (sym (c .before .before .before .before .before .enum-told .given .1) ∙ c .before .before .before .before .before .before .before .before .unhex .ensures .0)) (c .before .before .put .ensures, omega (arith, c .before .before .put .ensures .place))
 
--- src/answers.rt:107:39
 array-borrow-prefix-bytes : tie.Need-array-borrow-prefix-bytes
 array-borrow-prefix-bytes c = let q = is-hex _ (sym (c .before .n .given .1) ∙ c .before .before .before .before .unhex .ensures .0) in let t = c .before .before .before .before .unhex .ensures .1 (q .0) in let k = simp length-take at (ap length t) in omega arith
 
--- src/answers.rt:107:39
 slice-aggregate-print-in : tie.Need-slice-aggregate-print-in
 slice-aggregate-print-in c = let q = is-hex _ (sym (c .before .before .n .given .1) ∙ c .before .before .before .before .before .unhex .ensures .0) in let t = c .before .before .before .before .before .unhex .ensures .1 (q .0) in let k = simp length-take at (ap length t) in rw length-take (omega arith)
 
--- src/answers.rt:107:5
 print-in-requires : tie.Need-print-in-requires
 print-in-requires c κs = let q = is-hex _ (sym (c .before .before .before .n .given .1) ∙ c .before .before .before .before .before .before .unhex .ensures .0) in let t = c .before .before .before .before .before .before .unhex .ensures .1 (q .0) in let k = simp length-take at (ap length t) in simp length-take (omega (arith, hex-half (c .before .before .before .before .before .before .before .before .before .before .args .hex .now)))
 
--- src/answers.rt:91:1
 same-length-2 : tie.Need-same-length-2
 same-length-2 c = search needs
 
--- src/answers.rt:91:1
 returns-2 : tie.Need-returns-2
 returns-2 c = let q = is-hex _ (sym (c .before .before .before .before .before .before .before .n .given .1) ∙ c .before .before .before .before .before .before .before .before .before .before .unhex .ensures .0) in let t = c .before .before .before .before .before .before .before .before .before .before .unhex .ensures .1 (q .0) in let k = simp length-take at (ap length t) in
     let u = rw (← q .1) at t in

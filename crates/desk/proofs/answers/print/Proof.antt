@@ -5,58 +5,40 @@ use Rattle.desk.proofs.Prints.{printed, refused}
 use borrow.Author.Needs.{needs}
 use Rattle.desk.proofs.answers.print.Statement.{statement}
 use Rattle.desk.proofs.answers.print.Tie as tie
-use Rattle.desk.proofs.answers.print.Reads as reads
-use Rattle.desk.proofs.answers.print.Lts as lts
-use Rattle.desk.proofs.lines.put_refusal.Reads as put-refusal-reads
-use Rattle.desk.proofs.said.of_print.Reads as of-print-reads
-use Rattle.desk.proofs.texts.put.Reads as put-reads
-use Rattle.printer.proofs.display.Reads as display-reads
 
--- src/answers.rt:51:11
 display-requires : tie.Need-display-requires
 display-requires c κs = search needs
 
--- src/answers.rt:52:25
 enum-known-n : tie.Need-enum-known-n
 enum-known-n c = search needs
 
--- src/answers.rt:53:25
 slice-aggregate-put : tie.Need-slice-aggregate-put
 slice-aggregate-put c = search needs
 
--- src/answers.rt:53:13
 put-requires : tie.Need-put-requires
 put-requires c κs = search needs
 
--- src/answers.rt:54:13
 add-result : tie.Need-add-result
 add-result c = let p = printed (c .before .before .before .before .before .before .before .before .before .before .before .before .before .args .t .secs) (c .before .before .before .before .before .before .before .before .before .before .before .before .before .args .t .nanos) (c .before .before .before .before .before .before .before .before .before .before .before .before .before .args .epoch .0) (c .before .before .before .before .before .before .before .before .before .before .before .before .before .args .precision) (c .before .before .before .before .before .before .before .before .before .before .before .before .before .args .out .now) (omega arith) (search needs) (search needs) (rw (c .before .before .before .before .before .before .n .given .1) at (c .before .before .before .before .before .before .before .before .before .before .display .ensures)) (c .before .before .put .ensures) in omega (arith, p .1)
 
--- src/answers.rt:56:26
 enum-known-e : tie.Need-enum-known-e
 enum-known-e c = search needs
 
--- src/answers.rt:56:49
 of-print-requires : tie.Need-of-print-requires
 of-print-requires c κs = search needs
 
--- src/answers.rt:56:32
 put-refusal-requires : tie.Need-put-refusal-requires
 put-refusal-requires c κs = search needs
 
--- src/answers.rt:46:1
 same-length : tie.Need-same-length
 same-length c = search needs
 
--- src/answers.rt:46:1
 returns : tie.Need-returns
 returns c = printed (c .before .before .before .before .before .before .before .before .before .before .before .before .before .args .t .secs) (c .before .before .before .before .before .before .before .before .before .before .before .before .before .args .t .nanos) (c .before .before .before .before .before .before .before .before .before .before .before .before .before .args .epoch .0) (c .before .before .before .before .before .before .before .before .before .before .before .before .before .args .precision) (c .before .before .before .before .before .before .before .before .before .before .before .before .before .args .out .now) (omega arith) (search needs) (search needs) (rw (c .before .before .before .before .before .before .n .given .1) at (c .before .before .before .before .before .before .before .before .before .before .display .ensures)) (c .before .before .put .ensures)
 
--- src/answers.rt:46:1
 same-length-2 : tie.Need-same-length-2
 same-length-2 c = search needs
 
--- src/answers.rt:46:1
 returns-2 : tie.Need-returns-2
 returns-2 c = let p = refused (c .before .before .before .before .before .before .before .before .before .before .before .before .before .args .t .secs) (c .before .before .before .before .before .before .before .before .before .before .before .before .before .args .t .nanos) (c .before .before .before .before .before .before .before .before .before .before .before .before .before .args .epoch .0) (c .before .before .before .before .before .before .before .before .before .before .before .before .before .args .precision) (c .before .before .before .before .before .before .before .before .before .before .before .before .before .args .out .now) (omega arith) (search needs) (search needs) (rw (c .before .before .before .before .before .before .e .given .1) at (c .before .before .before .before .before .before .before .before .before .before .display .ensures)) in (rw (← p .1, ← c .before .before .before .of-print .ensures) (rw (p .0) at (c .before .before .put-refusal .ensures .0)), omega (arith, c .before .before .put-refusal .ensures .1))
 

@@ -5,93 +5,65 @@ use Rattle.desk.specs.Answers.{line}
 use borrow.Author.Needs.{needs}
 use Rattle.desk.proofs.answers.print_in.Statement.{statement}
 use Rattle.desk.proofs.answers.print_in.Tie as tie
-use Rattle.desk.proofs.answers.print_in.Reads as reads
-use Rattle.desk.proofs.answers.print_in.Lts as lts
-use Rattle.desk.proofs.hex.put_hex.Reads as put-hex-reads
-use Rattle.desk.proofs.lines.put_refusal.Reads as put-refusal-reads
-use Rattle.desk.proofs.said.of_print.Reads as of-print-reads
-use Rattle.desk.proofs.texts.put.Reads as put-reads
-use Rattle.desk.proofs.texts.put_natural.Reads as put-natural-reads
-use Rattle.printer.proofs.display.Reads as display-reads
 
--- src/answers.rt:76:11
 display-requires : tie.Need-display-requires
 display-requires c κs = search needs
 
--- src/answers.rt:77:25
 enum-known-n : tie.Need-enum-known-n
 enum-known-n c = search needs
 
--- src/answers.rt:78:35
 slice-aggregate-put : tie.Need-slice-aggregate-put
 slice-aggregate-put c = search needs
 
--- src/answers.rt:78:17
 put-requires : tie.Need-put-requires
 put-requires c κs = search needs
 
--- src/answers.rt:79:17
 put-natural-requires : tie.Need-put-natural-requires
 put-natural-requires c κs = search needs
 
--- src/answers.rt:80:37
 slice-aggregate-put-2 : tie.Need-slice-aggregate-put-2
 slice-aggregate-put-2 c = search needs
 
--- src/answers.rt:80:17
 put-requires-2 : tie.Need-put-requires-2
 put-requires-2 c κs = search needs
 
--- src/answers.rt:81:13
 put-hex-requires : tie.Need-put-hex-requires
 put-hex-requires c κs = search needs
 
--- src/answers.rt:83:26
 enum-known-e : tie.Need-enum-known-e
 enum-known-e c = search needs
 
--- src/answers.rt:84:40
 of-print-requires : tie.Need-of-print-requires
 of-print-requires c κs = search needs
 
--- src/answers.rt:84:17
 put-refusal-requires : tie.Need-put-refusal-requires
 put-refusal-requires c κs = search needs
 
--- src/answers.rt:85:37
 slice-aggregate-put-3 : tie.Need-slice-aggregate-put-3
 slice-aggregate-put-3 c = search needs
 
--- src/answers.rt:85:17
 put-requires-3 : tie.Need-put-requires-3
 put-requires-3 c κs = search needs
 
--- src/answers.rt:86:13
 put-hex-requires-2 : tie.Need-put-hex-requires-2
 put-hex-requires-2 c κs = search needs
 
--- src/answers.rt:64:1
 same-length : tie.Need-same-length
 same-length c = search needs
 
--- src/answers.rt:64:1
 same-length-2 : tie.Need-same-length-2
 same-length-2 c = search needs
 
--- src/answers.rt:64:1
 returns : tie.Need-returns
 unfolding line
 returns c = (rw (← c .before .before .before .before .before .before .before .before .before .before .before .before .before .before .before .before .before .before .before .before .before .before .before .before .display .ensures, c .before .before .before .before .before .before .before .before .before .before .before .before .before .before .before .before .before .before .before .before .n .given .1) (put-on (put-on (put-on (c .before .before .before .before .before .before .before .before .before .before .before .before .before .before .before .before .put .ensures) (c .before .before .before .before .before .before .before .before .before .before .before .before .put-natural .ensures .0)) (c .before .before .before .before .before .before .before .put2 .ensures)) (c .before .before .put-hex .ensures .0)), omega (arith, c .before .before .before .before .before .before .before .before .before .before .before .before .before .before .before .before .put .ensures .place, c .before .before .before .before .before .before .before .before .before .before .before .before .put-natural .ensures .1, c .before .before .before .before .before .before .before .put2 .ensures .place, c .before .before .put-hex .ensures .1, c .before .before .before .before .before .before .before .before .before .before .before .before .before .before .before .before .before .before .before .before .before .before .before .before .display .kept .1 .1 .1 .0))
 
--- src/answers.rt:64:1
 same-length-3 : tie.Need-same-length-3
 same-length-3 c = search needs
 
--- src/answers.rt:64:1
 same-length-4 : tie.Need-same-length-4
 same-length-4 c = search needs
 
--- src/answers.rt:64:1
 returns-2 : tie.Need-returns-2
 unfolding line
 returns-2 c = (rw (← c .before .before .before .before .before .before .before .before .before .before .before .before .before .before .before .before .before .before .before .before .display .ensures, c .before .before .before .before .before .before .before .before .before .before .before .before .before .before .before .before .e .given .1, ← c .before .before .before .before .before .before .before .before .before .before .before .before .before .of-print .ensures) (put-on (put-on (c .before .before .before .before .before .before .before .before .before .before .before .before .put-refusal .ensures .0) (c .before .before .before .before .before .before .before .put3 .ensures)) (c .before .before .put-hex2 .ensures .0)), omega (arith, c .before .before .before .before .before .before .before .before .before .before .before .before .put-refusal .ensures .1, c .before .before .before .before .before .before .before .put3 .ensures .place, c .before .before .put-hex2 .ensures .1, c .before .before .before .before .before .before .before .before .before .before .before .before .before .before .before .before .before .before .before .before .display .kept .1 .1 .1 .0))

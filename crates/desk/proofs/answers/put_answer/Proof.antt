@@ -12,149 +12,105 @@ use Prim.Native.Nat.{ℕ}
 use borrow.Author.Needs.{needs}
 use Rattle.desk.proofs.answers.put_answer.Statement.{statement}
 use Rattle.desk.proofs.answers.put_answer.Tie as tie
-use Rattle.desk.proofs.answers.put_answer.Reads as reads
-use Rattle.desk.proofs.answers.put_answer.Lts as lts
-use Rattle.desk.proofs.answers.counted.Reads as counted-reads
-use Rattle.desk.proofs.answers.line.Reads as line-reads
-use Rattle.desk.proofs.answers.print.Reads as print-reads
-use Rattle.desk.proofs.answers.read_hex.Reads as read-hex-reads
-use Rattle.desk.proofs.lines.put_said.Reads as put-said-reads
-use Rattle.desk.proofs.requests.asked.Reads as asked-reads
-use Rattle.desk.proofs.said.read.Reads as read-reads
-use Rattle.desk.proofs.texts.put.Reads as put-reads
-use Rattle.reader.proofs.bytes.skip.Reads as skip-reads
-use Rattle.reader.proofs.from_str.Reads as from-str-reads
 
--- src/answers.rt:182:11
 asked-requires : tie.Need-asked-requires
 asked-requires c κs = search needs
 
--- src/answers.rt:183:25
 enum-known-count : tie.Need-enum-known-count
 enum-known-count c = search needs
 
--- src/answers.rt:183:49
 counted-requires : tie.Need-counted-requires
 counted-requires c κs = search needs
 
--- src/answers.rt:183:35
 put-said-requires : tie.Need-put-said-requires
 put-said-requires c κs = search needs
 
--- src/answers.rt:184:23
 enum-known-epoch : tie.Need-enum-known-epoch
 enum-known-epoch c = search needs
 
--- src/answers.rt:186:33
 skip-requires : tie.Need-skip-requires
 skip-requires c κs = search needs
 
--- src/answers.rt:186:24
 from-str-requires : tie.Need-from-str-requires
 from-str-requires c κs = search needs
 
--- src/answers.rt:186:13
 read-requires : tie.Need-read-requires
 read-requires c κs = search needs
 
--- src/answers.rt:184:39
 put-said-requires-2 : tie.Need-put-said-requires-2
 put-said-requires-2 c κs = search needs
 
--- src/answers.rt:188:26
 enum-known-epoch-2 : tie.Need-enum-known-epoch-2
 enum-known-epoch-2 c = search needs
 
--- src/answers.rt:188:51
 skip-requires-2 : tie.Need-skip-requires-2
 skip-requires-2 c κs = search needs
 
--- src/answers.rt:188:42
 read-hex-requires : tie.Need-read-hex-requires
 read-hex-requires c κs = let b = short-request _ (sym (c .before .before .before .before .before .asked .ensures) ∙ c .before .before .before .epoch2 .given .1) (λ z. let e : _≡_ {A = ℕ} 0 1 = cc in omega arith) in let k = simp length-drop at (ap length (c .before .skip2 .ensures)) in (omega arith, omega arith)
 
--- src/answers.rt:189:24
 enum-known-epoch-3 : tie.Need-enum-known-epoch-3
 enum-known-epoch-3 c = search needs
 
--- src/answers.rt:189:58
 print-requires : tie.Need-print-requires
 print-requires c κs = search needs
 
--- src/answers.rt:195:23
 enum-known-epoch-4 : tie.Need-enum-known-epoch-4
 enum-known-epoch-4 c = search needs
 
--- src/answers.rt:197:50
 skip-requires-3 : tie.Need-skip-requires-3
 skip-requires-3 c κs = search needs
 
--- src/answers.rt:197:13
 line-requires : tie.Need-line-requires
 line-requires c κs = let b = short-request _ (sym (c .before .before .before .before .before .asked .ensures) ∙ c .before .before .before .epoch4 .given .1) (λ z. let e : _≡_ {A = ℕ} 0 1 = cc in omega arith) in let k = simp length-drop at (ap length (c .before .skip3 .ensures)) in (omega arith, omega arith)
 
--- src/answers.rt:199:35
 enum-told : tie.Need-enum-told
 enum-told c = search needs
 
--- src/answers.rt:199:43
 slice-aggregate-put : tie.Need-slice-aggregate-put
 slice-aggregate-put c = search needs
 
--- src/answers.rt:199:31
 put-requires : tie.Need-put-requires
 put-requires c κs = search needs
 
--- src/answers.rt:177:1
 same-length : tie.Need-same-length
 same-length c = search needs
 
--- src/answers.rt:177:1
 returns : tie.Need-returns
 unfolding answerText
 returns c = (rw (← c .before .before .before .before .before .before .before .before .asked .ensures, c .before .before .before .before .before .before .count .given .1, ← c .before .before .before .counted .ensures) (c .before .before .put-said .ensures .0), omega (arith, c .before .before .put-said .ensures .1))
 
--- src/answers.rt:177:1
 same-length-2 : tie.Need-same-length-2
 same-length-2 c = search needs
 
--- src/answers.rt:177:1
 returns-2 : tie.Need-returns-2
 unfolding answerText
 returns-2 c = let f : SFits w64 (c .before .before .before .before .before .before .before .before .epoch .given .0 .0) = search needs in let d = simp toZ-ofZ at (c .before .before .before .before .from-str .ensures) in (rw (← c .before .before .before .before .before .before .before .before .before .before .asked .ensures, c .before .before .before .before .before .before .before .before .epoch .given .1, ← c .before .before .before .before .before .skip .ensures, ← d, ← c .before .before .before .read .ensures) (c .before .before .put-said2 .ensures .0), omega (arith, c .before .before .put-said2 .ensures .1))
 
--- src/answers.rt:177:1
 same-length-3 : tie.Need-same-length-3
 same-length-3 c = search needs
 
--- src/answers.rt:177:1
 returns-3 : tie.Need-returns-3
 unfolding answerText
 returns-3 c = let f : SFits w64 (c .before .before .before .before .before .before .epoch2 .given .0 .0) = search needs in let k = simp length-drop at (ap length (c .before .before .before .before .skip2 .ensures)) in (rw (← c .before .before .before .before .before .before .before .before .asked .ensures, c .before .before .before .before .before .before .epoch2 .given .1, ← c .before .before .before .before .skip2 .ensures) (simp toZ-ofZ at (c .before .before .read-hex .ensures .0)), omega (arith, c .before .before .read-hex .ensures .1))
 
--- src/answers.rt:177:1
 same-length-4 : tie.Need-same-length-4
 same-length-4 c = search needs
 
--- src/answers.rt:177:1
 returns-4 : tie.Need-returns-4
 unfolding answerText
 returns-4 c = let f : SFits w64 (c .before .before .before .before .before .epoch3 .given .0 .0) = search needs in let g : SFits w64 (c .before .before .before .before .before .epoch3 .given .0 .1 .0) = search needs in (rw (← c .before .before .before .before .before .before .before .asked .ensures, c .before .before .before .before .before .epoch3 .given .1) (simp toZ-ofZ at (c .before .before .print .ensures .0)), omega (arith, c .before .before .print .ensures .1))
 
--- src/answers.rt:177:1
 same-length-5 : tie.Need-same-length-5
 same-length-5 c = search needs
 
--- src/answers.rt:177:1
 returns-5 : tie.Need-returns-5
 unfolding answerText
 returns-5 c = let f : SFits w64 (c .before .before .before .before .before .before .epoch4 .given .0 .0) = search needs in let g : SFits w64 (c .before .before .before .before .before .before .epoch4 .given .0 .1 .0) = search needs in let k = simp length-drop at (ap length (c .before .before .before .before .skip3 .ensures)) in (rw (← c .before .before .before .before .before .before .before .before .asked .ensures, c .before .before .before .before .before .before .epoch4 .given .1, ← c .before .before .before .before .skip3 .ensures) (simp toZ-ofZ at (c .before .before .line .ensures .0)), omega (arith, c .before .before .line .ensures .1))
 
--- src/answers.rt:177:1
 same-length-6 : tie.Need-same-length-6
 same-length-6 c = search needs
 
--- src/answers.rt:177:1
 returns-6 : tie.Need-returns-6
 unfolding answerText
 returns-6 c = (rw (← c .before .before .before .before .before .before .before .asked .ensures, c .before .before .before .before .before .enum-told .given .1) (c .before .before .put .ensures), omega (arith, c .before .before .put .ensures .place))

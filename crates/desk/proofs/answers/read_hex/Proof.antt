@@ -11,71 +11,49 @@ use Rattle.desk.proofs.Hexes.{no-hex, is-hex, hex-half}
 use borrow.Author.Needs.{needs}
 use Rattle.desk.proofs.answers.read_hex.Statement.{statement}
 use Rattle.desk.proofs.answers.read_hex.Tie as tie
-use Rattle.desk.proofs.answers.read_hex.Reads as reads
-use Rattle.desk.proofs.answers.read_hex.Lts as lts
-use Rattle.desk.proofs.hex.unhex.Reads as unhex-reads
-use Rattle.desk.proofs.lines.put_said.Reads as put-said-reads
-use Rattle.desk.proofs.said.read.Reads as read-reads
-use Rattle.desk.proofs.texts.put.Reads as put-reads
-use Rattle.reader.proofs.from_str.Reads as from-str-reads
 
--- src/answers.rt:39:41
 slice-aggregate-unhex : tie.Need-slice-aggregate-unhex
 slice-aggregate-unhex c = search needs
 
--- src/answers.rt:39:30
 unhex-requires : tie.Need-unhex-requires
 unhex-requires c κs = search needs
 
--- src/answers.rt:39:25
 enum-known-n : tie.Need-enum-known-n
 enum-known-n c = search needs
 
--- src/answers.rt:40:20
 enum-told : tie.Need-enum-told
 enum-told c = search needs
 
--- src/answers.rt:40:28
 slice-aggregate-put : tie.Need-slice-aggregate-put
 slice-aggregate-put c = search needs
 
--- src/answers.rt:40:9
 put-requires : tie.Need-put-requires
 put-requires c κs = search needs
 
--- src/answers.rt:40:9
 same-length : tie.Need-same-length
 same-length c = search needs
 
--- src/answers.rt:40:9
 returns : tie.Need-returns
 returns c = rw (no-hex _ (sym (c .before .before .before .before .before .enum-told .given .1) ∙ c .before .before .before .before .before .before .before .before .unhex .ensures .0)) (c .before .before .put .ensures, omega (arith, c .before .before .put .ensures .place))
 
--- src/answers.rt:42:39
 array-share-prefix-bytes : tie.Need-array-share-prefix-bytes
 array-share-prefix-bytes c = let q = is-hex _ (sym (c .before .before .n .given .1) ∙ c .before .before .before .before .before .unhex .ensures .0) in let t = c .before .before .before .before .before .unhex .ensures .1 (q .0) in let k = simp length-take at (ap length t) in omega arith
 
--- src/answers.rt:42:39
 slice-aggregate-from-str : tie.Need-slice-aggregate-from-str
 slice-aggregate-from-str c = let q = is-hex _ (sym (c .before .before .before .n .given .1) ∙ c .before .before .before .before .before .before .unhex .ensures .0) in let t = c .before .before .before .before .before .before .unhex .ensures .1 (q .0) in let k = simp length-take at (ap length t) in rw length-take (omega arith)
 
--- src/answers.rt:42:30
 from-str-requires : tie.Need-from-str-requires
 from-str-requires c κs = search needs
 
--- src/answers.rt:42:19
 read-requires : tie.Need-read-requires
 read-requires c κs = search needs
 
--- src/answers.rt:42:5
 put-said-requires : tie.Need-put-said-requires
 put-said-requires c κs = search needs
 
--- src/answers.rt:33:1
 same-length-2 : tie.Need-same-length-2
 same-length-2 c = search needs
 
--- src/answers.rt:33:1
 returns-2 : tie.Need-returns-2
 returns-2 c = let q = is-hex _ (sym (c .before .before .before .before .before .before .before .before .n .given .1) ∙ c .before .before .before .before .before .before .before .before .before .before .before .unhex .ensures .0) in let t = c .before .before .before .before .before .before .before .before .before .before .before .unhex .ensures .1 (q .0) in let k = simp length-take at (ap length t) in
     let u = rw (← q .1) at t in

@@ -8,39 +8,27 @@ use Rattle.desk.specs.Fields.{epochField}
 use borrow.Author.Needs.{needs}
 use Rattle.desk.proofs.fields.epoch_field.Statement.{statement}
 use Rattle.desk.proofs.fields.epoch_field.Tie as tie
-use Rattle.desk.proofs.fields.epoch_field.Reads as reads
-use Rattle.desk.proofs.fields.epoch_field.Lts as lts
-use Rattle.desk.proofs.fields.field_length.Reads as field-length-reads
-use Rattle.desk.proofs.fields.field_word.Reads as field-word-reads
-use Rattle.desk.proofs.numbers.parse_epoch.Reads as parse-epoch-reads
 
--- src/fields.rt:70:9
 field-length-requires : tie.Need-field-length-requires
 field-length-requires c κs = search needs
 
--- src/fields.rt:71:32
 field-word-requires : tie.Need-field-word-requires
 field-word-requires c κs = search needs
 
--- src/fields.rt:71:11
 parse-epoch-requires : tie.Need-parse-epoch-requires
 parse-epoch-requires c κs = search needs
 
--- src/fields.rt:72:23
 enum-known-v : tie.Need-enum-known-v
 enum-known-v c = search needs
 
--- src/fields.rt:73:24
 enum-told : tie.Need-enum-told
 enum-told c = search needs
 
--- src/fields.rt:67:1
 returns : tie.Need-returns
 unfolding epochField
 returns c = let f : SFits w64 (c .before .v .given .0 .0) = search needs in
     ap (λ x. Whole.Got x (c .before .before .before .before .before .field-length .result)) (toZ-ofZ {w = w64} f) ∙ rw (← c .before .before .before .before .before .field-length .ensures .0, ← c .before .before .before .before .field-word .ensures, ← c .before .before .before .parse-epoch .ensures, c .before .v .given .1)
 
--- src/fields.rt:67:1
 returns-2 : tie.Need-returns-2
 unfolding epochField
 returns-2 c = rw (← c .before .before .before .before .field-length .ensures .0, ← c .before .before .before .field-word .ensures, ← c .before .before .parse-epoch .ensures, c .enum-told .given .1)

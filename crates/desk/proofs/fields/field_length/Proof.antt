@@ -6,35 +6,24 @@ use Rattle.desk.proofs.Splits.{field-blank, field-none, blank-length}
 use borrow.Author.Needs.{needs}
 use Rattle.desk.proofs.fields.field_length.Statement.{statement}
 use Rattle.desk.proofs.fields.field_length.Tie as tie
-use Rattle.desk.proofs.fields.field_length.Reads as reads
-use Rattle.desk.proofs.fields.field_length.Lts as lts
-use Rattle.desk.proofs.words.word_length.Reads as word-length-reads
-use Rattle.reader.proofs.bytes.begins_with.Reads as begins-with-reads
-use Rattle.reader.proofs.bytes.skip.Reads as skip-reads
 
--- src/fields.rt:42:8
 begins-with-requires : tie.Need-begins-with-requires
 begins-with-requires c κs = search needs
 
--- src/fields.rt:43:32
 skip-requires : tie.Need-skip-requires
 skip-requires c κs = search needs
 
--- src/fields.rt:43:20
 word-length-requires : tie.Need-word-length-requires
 word-length-requires c κs = search needs
 
--- src/fields.rt:43:16
 add-result : tie.Need-add-result
 add-result c = let h = c .word-length .ensures .1 in let k = simp length-drop at (ap length (c .before .skip .ensures)) in omega (arith, blank-length _ (sym (c .before .before .before .begins-with .ensures) ∙ c .before .before .if1 .taken))
 
--- src/fields.rt:43:9
 returns : tie.Need-returns
 returns c = let b = sym (c .before .before .before .begins-with .ensures) ∙ c .before .before .if1 .taken in
     let k = simp length-drop at (ap length (c .before .skip .ensures)) in
     (rw (c .word-length .ensures .0, c .before .skip .ensures) (field-blank _ b), omega (arith, blank-length _ b, c .word-length .ensures .1))
 
--- src/fields.rt:38:1
 returns-2 : tie.Need-returns-2
 returns-2 c = (field-none _ (sym (c .before .begins-with .ensures) ∙ c .if1 .left), omega arith)
 

@@ -4,30 +4,22 @@ use native.Mathlib.Omega.{arith}
 use borrow.Author.Needs.{needs}
 use Rattle.desk.proofs.fields.field_word.Statement.{statement}
 use Rattle.desk.proofs.fields.field_word.Tie as tie
-use Rattle.desk.proofs.fields.field_word.Reads as reads
-use Rattle.desk.proofs.fields.field_word.Lts as lts
 
--- src/fields.rt:53:16
 sub-result : tie.Need-sub-result
 sub-result c = search needs
 
--- src/fields.rt:53:16
 part-result-start : tie.Need-part-result-start
 part-result-start c = search needs
 
--- src/fields.rt:53:16
 part-result-end : tie.Need-part-result-end
 part-result-end c = search needs
 
--- src/fields.rt:53:34
 slice-aggregate-result : tie.Need-slice-aggregate-result
 slice-aggregate-result c = search needs
 
--- src/fields.rt:49:1
 returns : tie.Need-returns
 returns c = search needs
 
--- src/fields.rt:49:1
 returns-2 : tie.Need-returns-2
 returns-2 c = let z : c .before .before .args .n - 1 ≡ 0 = omega arith in rw z
 

@@ -6,38 +6,26 @@ use Rattle.desk.specs.Fields.{naturalField}
 use borrow.Author.Needs.{needs}
 use Rattle.desk.proofs.fields.natural_field.Statement.{statement}
 use Rattle.desk.proofs.fields.natural_field.Tie as tie
-use Rattle.desk.proofs.fields.natural_field.Reads as reads
-use Rattle.desk.proofs.fields.natural_field.Lts as lts
-use Rattle.desk.proofs.fields.field_length.Reads as field-length-reads
-use Rattle.desk.proofs.fields.field_word.Reads as field-word-reads
-use Rattle.desk.proofs.numbers.parse_unsigned.Reads as parse-unsigned-reads
 
--- src/fields.rt:80:9
 field-length-requires : tie.Need-field-length-requires
 field-length-requires c κs = search needs
 
--- src/fields.rt:81:35
 field-word-requires : tie.Need-field-word-requires
 field-word-requires c κs = search needs
 
--- src/fields.rt:81:11
 parse-unsigned-requires : tie.Need-parse-unsigned-requires
 parse-unsigned-requires c κs = search needs
 
--- src/fields.rt:82:23
 enum-known-v : tie.Need-enum-known-v
 enum-known-v c = search needs
 
--- src/fields.rt:83:24
 enum-told : tie.Need-enum-told
 enum-told c = search needs
 
--- src/fields.rt:77:1
 returns : tie.Need-returns
 unfolding naturalField
 returns c = rw (← c .before .before .before .before .before .field-length .ensures .0, ← c .before .before .before .before .field-word .ensures, ← c .before .before .before .parse-unsigned .ensures, c .before .v .given .1)
 
--- src/fields.rt:77:1
 returns-2 : tie.Need-returns-2
 unfolding naturalField
 returns-2 c = rw (← c .before .before .before .before .field-length .ensures .0, ← c .before .before .before .field-word .ensures, ← c .before .before .parse-unsigned .ensures, c .enum-told .given .1)

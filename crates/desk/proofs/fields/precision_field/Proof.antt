@@ -6,38 +6,26 @@ use Rattle.desk.specs.Fields.{precisionField}
 use borrow.Author.Needs.{needs}
 use Rattle.desk.proofs.fields.precision_field.Statement.{statement}
 use Rattle.desk.proofs.fields.precision_field.Tie as tie
-use Rattle.desk.proofs.fields.precision_field.Reads as reads
-use Rattle.desk.proofs.fields.precision_field.Lts as lts
-use Rattle.desk.proofs.fields.field_length.Reads as field-length-reads
-use Rattle.desk.proofs.fields.field_word.Reads as field-word-reads
-use Rattle.desk.proofs.numbers.parse_precision.Reads as parse-precision-reads
 
--- src/fields.rt:90:9
 field-length-requires : tie.Need-field-length-requires
 field-length-requires c κs = search needs
 
--- src/fields.rt:91:36
 field-word-requires : tie.Need-field-word-requires
 field-word-requires c κs = search needs
 
--- src/fields.rt:91:11
 parse-precision-requires : tie.Need-parse-precision-requires
 parse-precision-requires c κs = search needs
 
--- src/fields.rt:92:24
 enum-known-v : tie.Need-enum-known-v
 enum-known-v c = search needs
 
--- src/fields.rt:93:25
 enum-told : tie.Need-enum-told
 enum-told c = search needs
 
--- src/fields.rt:87:1
 returns : tie.Need-returns
 unfolding precisionField
 returns c = rw (← c .before .before .before .before .before .field-length .ensures .0, ← c .before .before .before .before .field-word .ensures, ← c .before .before .before .parse-precision .ensures, c .before .v .given .1)
 
--- src/fields.rt:87:1
 returns-2 : tie.Need-returns-2
 unfolding precisionField
 returns-2 c = rw (← c .before .before .before .before .field-length .ensures .0, ← c .before .before .before .field-word .ensures, ← c .before .before .parse-precision .ensures, c .enum-told .given .1)

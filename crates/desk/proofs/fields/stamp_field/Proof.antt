@@ -11,59 +11,42 @@ use Rattle.desk.proofs.Rests.{whole-within, natural-within}
 use borrow.Author.Needs.{needs}
 use Rattle.desk.proofs.fields.stamp_field.Statement.{statement}
 use Rattle.desk.proofs.fields.stamp_field.Tie as tie
-use Rattle.desk.proofs.fields.stamp_field.Reads as reads
-use Rattle.desk.proofs.fields.stamp_field.Lts as lts
-use Rattle.desk.proofs.fields.natural_field.Reads as natural-field-reads
-use Rattle.desk.proofs.fields.whole_field.Reads as whole-field-reads
-use Rattle.reader.proofs.bytes.skip.Reads as skip-reads
 
--- src/fields.rt:100:31
 whole-field-requires : tie.Need-whole-field-requires
 whole-field-requires c κs = search needs
 
--- src/fields.rt:100:20
 enum-known-secs : tie.Need-enum-known-secs
 enum-known-secs c = search needs
 
--- src/fields.rt:101:9
 enum-told : tie.Need-enum-told
 enum-told c = search needs
 
--- src/fields.rt:101:9
 returns : tie.Need-returns
 unfolding stampField
 returns c = rw (← c .before .before .whole-field .ensures, c .enum-told .given .1)
 
--- src/fields.rt:103:48
 skip-requires : tie.Need-skip-requires
 skip-requires c κs = search needs
 
--- src/fields.rt:103:34
 natural-field-requires : tie.Need-natural-field-requires
 natural-field-requires c κs = search needs
 
--- src/fields.rt:103:22
 enum-known-nanos : tie.Need-enum-known-nanos
 enum-known-nanos c = search needs
 
--- src/fields.rt:104:9
 enum-told-2 : tie.Need-enum-told-2
 enum-told-2 c = search needs
 
--- src/fields.rt:104:9
 returns-2 : tie.Need-returns-2
 unfolding stampField
 returns-2 c = rw (← c .before .before .before .before .before .before .before .whole-field .ensures, c .before .before .before .before .before .secs .given .1, ← c .before .before .before .skip .ensures, ← c .before .before .natural-field .ensures, c .enum-told2 .given .1)
 
--- src/fields.rt:106:22
 cast-t9 : tie.Need-cast-t9
 cast-t9 c = omega (arith, natural-within _ _ (sym (c .before .before .before .natural-field .ensures) ∙ c .before .nanos .given .1))
 
--- src/fields.rt:106:36
 add-t10 : tie.Need-add-t10
 add-t10 c = let k = simp length-drop at (ap length (c .before .before .before .before .skip .ensures)) in omega (arith, whole-within _ _ (sym (c .before .before .before .before .before .before .before .before .whole-field .ensures) ∙ c .before .before .before .before .before .before .secs .given .1), natural-within _ _ (sym (c .before .before .before .natural-field .ensures) ∙ c .before .nanos .given .1))
 
--- src/fields.rt:97:1
 returns-3 : tie.Need-returns-3
 unfolding stampField
 returns-3 c = let f : SFits w64 (c .before .before .before .before .before .before .secs .given .0 .0) = search needs in

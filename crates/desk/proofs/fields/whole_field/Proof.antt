@@ -8,39 +8,27 @@ use Rattle.desk.specs.Fields.{wholeField}
 use borrow.Author.Needs.{needs}
 use Rattle.desk.proofs.fields.whole_field.Statement.{statement}
 use Rattle.desk.proofs.fields.whole_field.Tie as tie
-use Rattle.desk.proofs.fields.whole_field.Reads as reads
-use Rattle.desk.proofs.fields.whole_field.Lts as lts
-use Rattle.desk.proofs.fields.field_length.Reads as field-length-reads
-use Rattle.desk.proofs.fields.field_word.Reads as field-word-reads
-use Rattle.desk.proofs.numbers.parse_signed.Reads as parse-signed-reads
 
--- src/fields.rt:60:9
 field-length-requires : tie.Need-field-length-requires
 field-length-requires c κs = search needs
 
--- src/fields.rt:61:33
 field-word-requires : tie.Need-field-word-requires
 field-word-requires c κs = search needs
 
--- src/fields.rt:61:11
 parse-signed-requires : tie.Need-parse-signed-requires
 parse-signed-requires c κs = search needs
 
--- src/fields.rt:62:23
 enum-known-v : tie.Need-enum-known-v
 enum-known-v c = search needs
 
--- src/fields.rt:63:24
 enum-told : tie.Need-enum-told
 enum-told c = search needs
 
--- src/fields.rt:56:1
 returns : tie.Need-returns
 unfolding wholeField
 returns c = let f : SFits w64 (c .before .v .given .0 .0) = search needs in
     ap (λ x. Whole.Got x (c .before .before .before .before .before .field-length .result)) (toZ-ofZ {w = w64} f) ∙ rw (← c .before .before .before .before .before .field-length .ensures .0, ← c .before .before .before .before .field-word .ensures, ← c .before .before .before .parse-signed .ensures, c .before .v .given .1)
 
--- src/fields.rt:56:1
 returns-2 : tie.Need-returns-2
 unfolding wholeField
 returns-2 c = rw (← c .before .before .before .before .field-length .ensures .0, ← c .before .before .before .field-word .ensures, ← c .before .before .parse-signed .ensures, c .enum-told .given .1)

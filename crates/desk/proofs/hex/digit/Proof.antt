@@ -3,23 +3,17 @@ use Rattle.desk.specs.Hex.{digitOf}
 use borrow.Author.Needs.{needs}
 use Rattle.desk.proofs.hex.digit.Statement.{statement}
 use Rattle.desk.proofs.hex.digit.Tie as tie
-use Rattle.desk.proofs.hex.digit.Reads as reads
-use Rattle.desk.proofs.hex.digit.Lts as lts
 
--- src/hex.rt:40:16
 add-result : tie.Need-add-result
 add-result c = search needs
 
--- src/hex.rt:40:9
 returns : tie.Need-returns
 unfolding digitOf
 returns c = rw (lt-ltb _ 10 (c .if1 .taken))
 
--- src/hex.rt:42:5
 add-result-2 : tie.Need-add-result-2
 add-result-2 c = search needs
 
--- src/hex.rt:35:1
 returns-2 : tie.Need-returns-2
 unfolding digitOf
 returns-2 c = rw (le-ltb _ 10 (c .if1 .left))

@@ -4,34 +4,26 @@ use Rattle.desk.specs.Hex.{digitValue}
 use borrow.Author.Needs.{needs}
 use Rattle.desk.proofs.hex.digit_value.Statement.{statement}
 use Rattle.desk.proofs.hex.digit_value.Tie as tie
-use Rattle.desk.proofs.hex.digit_value.Reads as reads
-use Rattle.desk.proofs.hex.digit_value.Lts as lts
 
--- src/hex.rt:20:9
 returns : tie.Need-returns
 unfolding digitValue
 returns c = rw (lt-leb 48 _ (c .if1 .taken), lt-leb 97 (c .before .args .byte) (omega arith))
 
--- src/hex.rt:23:9
 returns-2 : tie.Need-returns-2
 unfolding digitValue
 returns-2 c = rw (le-leb 48 _ (c .before .if1 .left), le-leb _ 57 (c .if2 .taken))
 
--- src/hex.rt:26:9
 returns-3 : tie.Need-returns-3
 unfolding digitValue
 returns-3 c = rw (le-leb 48 _ (c .before .before .if1 .left), lt-leb _ 57 (c .before .if2 .left), lt-leb 97 _ (c .if3 .taken))
 
--- src/hex.rt:29:16
 sub-result : tie.Need-sub-result
 sub-result c = search needs
 
--- src/hex.rt:29:9
 returns-4 : tie.Need-returns-4
 unfolding digitValue
 returns-4 c = rw (le-leb 48 _ (c .before .before .before .if1 .left), lt-leb _ 57 (c .before .before .if2 .left), le-leb 97 _ (c .before .if3 .left), le-leb _ 102 (c .if4 .taken))
 
--- src/hex.rt:16:1
 returns-5 : tie.Need-returns-5
 unfolding digitValue
 returns-5 c = rw (le-leb 48 _ (c .before .before .before .if1 .left), lt-leb _ 57 (c .before .before .if2 .left), le-leb 97 _ (c .before .if3 .left), lt-leb _ 102 (c .if4 .left))

@@ -8,9 +8,6 @@ use Rattle.desk.specs.Hex.{hexText, digitPairs}
 use Rattle.desk.proofs.Hexes.{no-bytes, some-bytes, pairs-next, pairs-done, pairs-length}
 use Rattle.desk.proofs.hex.put_hex.Statement.{statement}
 use Rattle.desk.proofs.hex.put_hex.Tie as tie
-use Rattle.desk.proofs.hex.put_hex.Reads as reads
-use Rattle.desk.proofs.hex.put_hex.Lts as lts
-use Rattle.desk.proofs.hex.digit.Reads as digit-reads
 
 abbrev Inv-loop : tie.InvT-loop
 Inv-loop out₀ at bytes i₀ next₀ out i next = (i ≤ length bytes) × (next ≡ at + 2 * i) × (length out ≡ length out₀) × (at + 2 * length bytes < length out₀) × (0 < length bytes) × (sets out₀ at (digitPairs bytes) ≡ sets out next (digitPairs (drop i bytes)))
@@ -18,71 +15,54 @@ Inv-loop out₀ at bytes i₀ next₀ out i next = (i ≤ length bytes) × (next
 abbrev μ-loop : tie.MeasureT-loop
 μ-loop out₀ at bytes i₀ next₀ out i next = length bytes - i
 
--- src/hex.rt:85:9
 slice-write-out : tie.Need-slice-write-out Inv-loop μ-loop
 slice-write-out c = omega arith
 
--- src/hex.rt:86:16
 add-result : tie.Need-add-result Inv-loop μ-loop
 add-result c = omega arith
 
--- src/hex.rt:86:9
 same-length : tie.Need-same-length Inv-loop μ-loop
 same-length c = simp length-set
 
--- src/hex.rt:86:9
 returns : tie.Need-returns Inv-loop μ-loop
 returns c = let e = no-bytes (c .before .before .before .args .bytes .now) (c .if1 .taken) in (record { line = rw e; place = rw e (omega arith) }, omega arith)
 
--- src/hex.rt:90:5
 loop-holds : tie.Need-loop-holds Inv-loop μ-loop
 loop-holds c = (omega arith, omega arith, refl, search needs, omega arith, refl)
 
--- src/hex.rt:91:20
 shared-slice-read-byte : tie.Need-shared-slice-read-byte Inv-loop μ-loop
 shared-slice-read-byte c = omega arith
 
--- src/hex.rt:92:21
 digit-requires : tie.Need-digit-requires Inv-loop μ-loop
 digit-requires c κs = omega (arith, c .shared-slice-known2 .given (c .before .before .loop .i))
 
--- src/hex.rt:92:9
 slice-write-out-2 : tie.Need-slice-write-out-2 Inv-loop μ-loop
 slice-write-out-2 c = omega arith
 
--- src/hex.rt:93:25
 digit-requires-2 : tie.Need-digit-requires-2 Inv-loop μ-loop
 digit-requires-2 c κs = omega arith
 
--- src/hex.rt:93:13
 add-out : tie.Need-add-out Inv-loop μ-loop
 add-out c = omega arith
 
--- src/hex.rt:93:9
 slice-write-out-3 : tie.Need-slice-write-out-3 Inv-loop μ-loop
 slice-write-out-3 c = simp length-set (omega arith)
 
--- src/hex.rt:94:9
 add-next : tie.Need-add-next Inv-loop μ-loop
 add-next c = omega arith
 
--- src/hex.rt:95:9
 add-i : tie.Need-add-i Inv-loop μ-loop
 add-i c = omega arith
 
--- src/hex.rt:90:5
 loop-less : tie.Need-loop-less Inv-loop μ-loop
 loop-less c = omega arith
 
--- src/hex.rt:90:5
 loop-again : tie.Need-loop-again Inv-loop μ-loop
 loop-again c = (omega arith, omega arith, simp length-set (c .before .before .before .before .loop .inv .2), c .before .before .before .before .loop .inv .3, c .before .before .before .before .loop .inv .4, c .before .before .before .before .loop .inv .5 ∙ rw (c .before .digit .ensures, c .digit2 .ensures) (pairs-next _ (c .before .before .before .before .before .before .before .before .args .bytes .now) _ (c .before .before .before .before .loop .i) (omega arith)))
 
--- src/hex.rt:79:1
 same-length-2 : tie.Need-same-length-2 Inv-loop μ-loop
 same-length-2 c = c .before .loop .inv .2
 
--- src/hex.rt:79:1
 returns-2 : tie.Need-returns-2 Inv-loop μ-loop
 returns-2 c = let e = some-bytes (c .before .before .before .before .before .args .bytes .now) (omega arith) in
     (record { line = sym (rw e (c .before .loop .inv .5 ∙ pairs-done _ _ _ (c .before .loop .i) (omega arith))); place = rw e (omega (arith, pairs-length (c .before .before .before .before .before .args .bytes .now))) }, omega arith)

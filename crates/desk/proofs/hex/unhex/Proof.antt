@@ -13,10 +13,6 @@ use borrow.Author.Needs.{needs}
 use Rattle.desk.proofs.Hexes.{never}
 use Rattle.desk.proofs.hex.unhex.Statement.{statement}
 use Rattle.desk.proofs.hex.unhex.Tie as tie
-use Rattle.desk.proofs.hex.unhex.Reads as reads
-use Rattle.desk.proofs.hex.unhex.Lts as lts
-use Rattle.desk.proofs.hex.digit_value.Reads as digit-value-reads
-use Rattle.desk.proofs.words.same.Reads as same-reads
 
 abbrev Inv-loop : tie.InvT-loop
 Inv-loop hex bytes₀ i₀ n₀ bytes i n = (i ≡ 2 * n) × (i ≤ length hex) × (length bytes ≡ length bytes₀) × (0 < length hex) × (alike hex (bytesOf "-") ≡ false) × (inPairs hex ≡ inPairs (drop i hex)) × (pairs hex ≡ take n bytes ++ pairs (drop i hex))
@@ -24,91 +20,69 @@ Inv-loop hex bytes₀ i₀ n₀ bytes i n = (i ≡ 2 * n) × (i ≤ length hex) 
 abbrev μ-loop : tie.MeasureT-loop
 μ-loop hex bytes₀ i₀ n₀ bytes i n = length hex - i
 
--- src/hex.rt:51:18
 slice-aggregate-same : tie.Need-slice-aggregate-same Inv-loop μ-loop
 slice-aggregate-same c = search needs
 
--- src/hex.rt:51:8
 same-requires : tie.Need-same-requires Inv-loop μ-loop
 same-requires c κs = search needs
 
--- src/hex.rt:52:9
 returns : tie.Need-returns Inv-loop μ-loop
 returns c = let e = none _ (sym (c .before .same .ensures) ∙ c .if1 .taken) in (e .0, λ h. rw (e .1))
 
--- src/hex.rt:55:9
 returns-2 : tie.Need-returns-2 Inv-loop μ-loop
 returns-2 c = let e = empty _ (c .if2 .taken) (sym (c .before .before .same .ensures) ∙ c .before .if1 .left) in (e .0, never (e .1))
 
--- src/hex.rt:59:5
 loop-holds : tie.Need-loop-holds Inv-loop μ-loop
 loop-holds c = (refl, omega arith, refl, omega arith, sym (c .before .before .same .ensures) ∙ c .before .if1 .left, refl, refl)
 
--- src/hex.rt:59:11
 add-loop : tie.Need-add-loop Inv-loop μ-loop
 add-loop c = omega arith
 
--- src/hex.rt:60:32
 shared-slice-read-digit-value : tie.Need-shared-slice-read-digit-value Inv-loop μ-loop
 shared-slice-read-digit-value c = omega arith
 
--- src/hex.rt:60:13
 digit-value-requires : tie.Need-digit-value-requires Inv-loop μ-loop
 digit-value-requires c κs = search needs
 
--- src/hex.rt:61:35
 add-digit-value : tie.Need-add-digit-value Inv-loop μ-loop
 add-digit-value c = omega arith
 
--- src/hex.rt:61:31
 shared-slice-read-digit-value-2 : tie.Need-shared-slice-read-digit-value-2 Inv-loop μ-loop
 shared-slice-read-digit-value-2 c = omega arith
 
--- src/hex.rt:61:13
 digit-value-requires-2 : tie.Need-digit-value-requires-2 Inv-loop μ-loop
 digit-value-requires-2 c κs = search needs
 
--- src/hex.rt:63:13
 same-length : tie.Need-same-length Inv-loop μ-loop
 same-length c = c .before .before .before .before .before .before .loop .inv .2
 
--- src/hex.rt:63:13
 returns-3 : tie.Need-returns-3 Inv-loop μ-loop
 returns-3 c = let s = c .before .before .before .before .before .before .before .before .before .before .before .before .before .args .hex .now in let e = ill s (c .before .before .before .before .before .before .loop .inv .4) (c .before .before .before .before .before .before .loop .inv .5 ∙ bad-high s (c .before .before .before .before .before .before .loop .i) (omega arith) (rw (c .before .before .before .digit-value .ensures) at (c .if3 .taken))) in (e .0, never (e .1))
 
--- src/hex.rt:66:13
 same-length-2 : tie.Need-same-length-2 Inv-loop μ-loop
 same-length-2 c = c .before .before .before .before .before .before .before .loop .inv .2
 
--- src/hex.rt:66:13
 returns-4 : tie.Need-returns-4 Inv-loop μ-loop
 returns-4 c = let s = c .before .before .before .before .before .before .before .before .before .before .before .before .before .before .args .hex .now in let e = ill s (c .before .before .before .before .before .before .before .loop .inv .4) (c .before .before .before .before .before .before .before .loop .inv .5 ∙ bad-low s (c .before .before .before .before .before .before .before .loop .i) (omega arith) (rw (c .before .before .digit-value2 .ensures) at (c .if4 .taken))) in (e .0, never (e .1))
 
--- src/hex.rt:68:20
 mul-bytes : tie.Need-mul-bytes Inv-loop μ-loop
 mul-bytes c = omega arith
 
--- src/hex.rt:68:20
 add-bytes : tie.Need-add-bytes Inv-loop μ-loop
 add-bytes c = omega arith
 
--- src/hex.rt:68:9
 slice-write-bytes : tie.Need-slice-write-bytes Inv-loop μ-loop
 slice-write-bytes c = omega arith
 
--- src/hex.rt:69:9
 add-n : tie.Need-add-n Inv-loop μ-loop
 add-n c = omega arith
 
--- src/hex.rt:70:9
 add-i : tie.Need-add-i Inv-loop μ-loop
 add-i c = omega arith
 
--- src/hex.rt:59:5
 loop-less : tie.Need-loop-less Inv-loop μ-loop
 loop-less c = omega arith
 
--- src/hex.rt:59:5
 loop-again : tie.Need-loop-again Inv-loop μ-loop
 loop-again c = let s = c .before .before .before .before .before .before .before .before .before .before .before .before .before .before .args .hex .now in let i = c .before .before .before .before .before .before .before .loop .i in
     let a = rw (c .before .before .before .before .digit-value .ensures) at (c .before .if3 .left) in
@@ -122,19 +96,15 @@ loop-again c = let s = c .before .before .before .before .before .before .before
       c .before .before .before .before .before .before .before .loop .inv .6 ∙ rw (pairs-more s i (omega arith), ← c .before .before .before .before .digit-value .ensures, ← c .before .before .digit-value2 .ensures, add-one (c .before .before .before .before .before .before .before .loop .n), take-suc-set (c .before .before .before .before .before .before .before .loop .bytes) (c .before .before .before .before .before .before .before .loop .n) _ (omega arith), append-assoc),
     )
 
--- src/hex.rt:73:9
 same-length-3 : tie.Need-same-length-3 Inv-loop μ-loop
 same-length-3 c = c .before .before .loop .inv .2
 
--- src/hex.rt:73:9
 returns-5 : tie.Need-returns-5 Inv-loop μ-loop
 returns-5 c = let s = c .before .before .before .before .before .before .before .before .before .args .hex .now in let e = ill s (c .before .before .loop .inv .4) (c .before .before .loop .inv .5 ∙ odd s (c .before .before .loop .i) (c .if5 .taken) (omega arith)) in (e .0, never (e .1))
 
--- src/hex.rt:46:1
 same-length-4 : tie.Need-same-length-4 Inv-loop μ-loop
 same-length-4 c = c .before .before .loop .inv .2
 
--- src/hex.rt:46:1
 returns-6 : tie.Need-returns-6 Inv-loop μ-loop
 returns-6 c = let s = c .before .before .before .before .before .before .before .before .before .args .hex .now in let q = even s (c .before .before .loop .i) (c .if5 .left) in
     let e = well s (c .before .before .loop .inv .4) (c .before .before .loop .inv .3) (c .before .before .loop .inv .5 ∙ q .0) {l = take (c .before .before .loop .n) (c .before .before .loop .bytes)} (c .before .before .loop .inv .6 ∙ rw (q .1, append-nil)) in

@@ -4,27 +4,19 @@ use Rattle.desk.proofs.Puts.{put-on, put-none, put-length}
 use borrow.Author.Needs.{needs}
 use Rattle.desk.proofs.lines.put_mark.Statement.{statement}
 use Rattle.desk.proofs.lines.put_mark.Tie as tie
-use Rattle.desk.proofs.lines.put_mark.Reads as reads
-use Rattle.desk.proofs.lines.put_mark.Lts as lts
-use Rattle.desk.proofs.texts.put.Reads as put-reads
 
--- src/lines.rt:23:29
 slice-aggregate-put : tie.Need-slice-aggregate-put
 slice-aggregate-put c = search needs
 
--- src/lines.rt:23:9
 put-requires : tie.Need-put-requires
 put-requires c κs = search needs
 
--- src/lines.rt:23:9
 same-length : tie.Need-same-length
 same-length c = search needs
 
--- src/lines.rt:23:9
 returns : tie.Need-returns
 returns c = rw (c .before .before .before .before .before .if1 .taken) (c .before .before .put .ensures, omega (arith, c .before .before .put .ensures .place))
 
--- src/lines.rt:17:1
 returns-2 : tie.Need-returns-2
 returns-2 c = rw (c .if1 .left) (put-none _ _, omega arith)
 

@@ -4,67 +4,49 @@ use Rattle.desk.proofs.Puts.{put-on, put-none, put-length}
 use borrow.Author.Needs.{needs}
 use Rattle.desk.proofs.lines.put_order.Statement.{statement}
 use Rattle.desk.proofs.lines.put_order.Tie as tie
-use Rattle.desk.proofs.lines.put_order.Reads as reads
-use Rattle.desk.proofs.lines.put_order.Lts as lts
-use Rattle.desk.proofs.texts.put.Reads as put-reads
 
--- src/lines.rt:74:31
 enum-told : tie.Need-enum-told
 enum-told c = search needs
 
--- src/lines.rt:74:40
 slice-aggregate-put : tie.Need-slice-aggregate-put
 slice-aggregate-put c = search needs
 
--- src/lines.rt:74:27
 put-requires : tie.Need-put-requires
 put-requires c κs = search needs
 
--- src/lines.rt:75:32
 enum-told-2 : tie.Need-enum-told-2
 enum-told-2 c = search needs
 
--- src/lines.rt:75:41
 slice-aggregate-put-2 : tie.Need-slice-aggregate-put-2
 slice-aggregate-put-2 c = search needs
 
--- src/lines.rt:75:28
 put-requires-2 : tie.Need-put-requires-2
 put-requires-2 c κs = search needs
 
--- src/lines.rt:76:34
 enum-told-3 : tie.Need-enum-told-3
 enum-told-3 c = search needs
 
--- src/lines.rt:76:43
 slice-aggregate-put-3 : tie.Need-slice-aggregate-put-3
 slice-aggregate-put-3 c = search needs
 
--- src/lines.rt:76:30
 put-requires-3 : tie.Need-put-requires-3
 put-requires-3 c κs = search needs
 
--- src/lines.rt:68:1
 same-length : tie.Need-same-length
 same-length c = search needs
 
--- src/lines.rt:68:1
 returns : tie.Need-returns
 returns c = rw (c .before .before .before .before .before .enum-told .given .1) (c .before .before .put .ensures, omega (arith, c .before .before .put .ensures .place))
 
--- src/lines.rt:68:1
 same-length-2 : tie.Need-same-length-2
 same-length-2 c = search needs
 
--- src/lines.rt:68:1
 returns-2 : tie.Need-returns-2
 returns-2 c = rw (c .before .before .before .before .before .enum-told2 .given .1) (c .before .before .put2 .ensures, omega (arith, c .before .before .put2 .ensures .place))
 
--- src/lines.rt:68:1
 same-length-3 : tie.Need-same-length-3
 same-length-3 c = search needs
 
--- src/lines.rt:68:1
 returns-3 : tie.Need-returns-3
 returns-3 c = rw (c .before .before .before .before .before .enum-told3 .given .1) (c .before .before .put3 .ensures, omega (arith, c .before .before .put3 .ensures .place))
 

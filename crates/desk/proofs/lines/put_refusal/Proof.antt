@@ -7,68 +7,47 @@ use Rattle.desk.specs.Said.{refusedText}
 use borrow.Author.Needs.{needs}
 use Rattle.desk.proofs.lines.put_refusal.Statement.{statement}
 use Rattle.desk.proofs.lines.put_refusal.Tie as tie
-use Rattle.desk.proofs.lines.put_refusal.Reads as reads
-use Rattle.desk.proofs.lines.put_refusal.Lts as lts
-use Rattle.desk.proofs.lines.put_mark.Reads as put-mark-reads
-use Rattle.desk.proofs.lines.put_name.Reads as put-name-reads
-use Rattle.desk.proofs.texts.put.Reads as put-reads
-use Rattle.desk.proofs.texts.put_behind_blank.Reads as put-behind-blank-reads
-use Rattle.desk.proofs.texts.put_natural.Reads as put-natural-reads
 
--- src/lines.rt:57:26
 slice-aggregate-put : tie.Need-slice-aggregate-put
 slice-aggregate-put c = search needs
 
--- src/lines.rt:57:9
 put-requires : tie.Need-put-requires
 put-requires c κs = search needs
 
--- src/lines.rt:58:35
 cast-put-natural : tie.Need-cast-put-natural
 cast-put-natural c = search needs
 
--- src/lines.rt:58:9
 put-natural-requires : tie.Need-put-natural-requires
 put-natural-requires c κs = search needs
 
--- src/lines.rt:59:27
 slice-aggregate-put-2 : tie.Need-slice-aggregate-put-2
 slice-aggregate-put-2 c = search needs
 
--- src/lines.rt:59:9
 put-requires-2 : tie.Need-put-requires-2
 put-requires-2 c κs = search needs
 
--- src/lines.rt:60:9
 put-mark-requires : tie.Need-put-mark-requires
 put-mark-requires c κs = search needs
 
--- src/lines.rt:61:9
 put-name-requires : tie.Need-put-name-requires
 put-name-requires c κs = search needs
 
--- src/lines.rt:63:42
 cast-put-behind-blank : tie.Need-cast-put-behind-blank
 cast-put-behind-blank c = search needs
 
--- src/lines.rt:63:9
 put-behind-blank-requires : tie.Need-put-behind-blank-requires
 put-behind-blank-requires c κs = search needs
 
--- src/lines.rt:63:9
 same-length : tie.Need-same-length
 same-length c = search needs
 
--- src/lines.rt:63:9
 returns : tie.Need-returns
 unfolding refusedText refusalText integer
 returns c = (rw (c .before .before .before .before .before .if1 .taken) (put-on (put-on (put-on (put-on (put-on (c .before .before .before .before .before .before .before .before .before .before .before .before .before .before .before .before .before .before .before .before .before .before .before .before .before .before .put .ensures) (c .before .before .before .before .before .before .before .before .before .before .before .before .before .before .before .before .before .before .before .before .before .put-natural .ensures .0)) (c .before .before .before .before .before .before .before .before .before .before .before .before .before .before .before .before .put2 .ensures)) (c .before .before .before .before .before .before .before .before .before .before .before .before .put-mark .ensures .0)) (c .before .before .before .before .before .before .before .before .put-name .ensures .0)) (put-on (c .before .before .put-behind-blank .ensures .0) (put-none _ _))), omega (arith, c .before .before .before .before .before .before .before .before .before .before .before .before .before .before .before .before .before .before .before .before .before .before .before .before .before .before .put .ensures .place, c .before .before .before .before .before .before .before .before .before .before .before .before .before .before .before .before .before .before .before .before .before .put-natural .ensures .1, c .before .before .before .before .before .before .before .before .before .before .before .before .before .before .before .before .put2 .ensures .place, c .before .before .before .before .before .before .before .before .before .before .before .before .put-mark .ensures .1, c .before .before .before .before .before .before .before .before .put-name .ensures .1, c .before .before .put-behind-blank .ensures .1))
 
--- src/lines.rt:52:1
 same-length-2 : tie.Need-same-length-2
 same-length-2 c = search needs
 
--- src/lines.rt:52:1
 returns-2 : tie.Need-returns-2
 unfolding refusedText refusalText
 returns-2 c = (rw (c .if1 .left) (put-on (put-on (put-on (put-on (put-on (c .before .before .before .before .before .before .before .before .before .before .before .before .before .before .before .before .before .before .before .before .before .put .ensures) (c .before .before .before .before .before .before .before .before .before .before .before .before .before .before .before .before .put-natural .ensures .0)) (c .before .before .before .before .before .before .before .before .before .before .before .put2 .ensures)) (c .before .before .before .before .before .before .before .put-mark .ensures .0)) (c .before .before .before .put-name .ensures .0)) (put-none _ _)), omega (arith, c .before .before .before .before .before .before .before .before .before .before .before .before .before .before .before .before .before .before .before .before .before .put .ensures .place, c .before .before .before .before .before .before .before .before .before .before .before .before .before .before .before .before .put-natural .ensures .1, c .before .before .before .before .before .before .before .before .before .before .before .put2 .ensures .place, c .before .before .before .before .before .before .before .put-mark .ensures .1, c .before .before .before .put-name .ensures .1))

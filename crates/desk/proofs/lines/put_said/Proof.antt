@@ -8,144 +8,104 @@ use mir.Val.{SFits}
 use borrow.Author.Needs.{needs}
 use Rattle.desk.proofs.lines.put_said.Statement.{statement}
 use Rattle.desk.proofs.lines.put_said.Tie as tie
-use Rattle.desk.proofs.lines.put_said.Reads as reads
-use Rattle.desk.proofs.lines.put_said.Lts as lts
-use Rattle.desk.proofs.lines.put_order.Reads as put-order-reads
-use Rattle.desk.proofs.lines.put_refusal.Reads as put-refusal-reads
-use Rattle.desk.proofs.texts.put.Reads as put-reads
-use Rattle.desk.proofs.texts.put_behind_blank.Reads as put-behind-blank-reads
-use Rattle.desk.proofs.texts.put_integer.Reads as put-integer-reads
-use Rattle.desk.proofs.texts.put_natural.Reads as put-natural-reads
 
--- src/lines.rt:86:20
 enum-known-said : tie.Need-enum-known-said
 enum-known-said c = search needs
 
--- src/lines.rt:87:34
 slice-aggregate-put : tie.Need-slice-aggregate-put
 slice-aggregate-put c = search needs
 
--- src/lines.rt:87:17
 put-requires : tie.Need-put-requires
 put-requires c κs = search needs
 
--- src/lines.rt:88:17
 put-integer-requires : tie.Need-put-integer-requires
 put-integer-requires c κs = search needs
 
--- src/lines.rt:89:39
 cast-put-behind-blank : tie.Need-cast-put-behind-blank
 cast-put-behind-blank c = search needs
 
--- src/lines.rt:89:13
 put-behind-blank-requires : tie.Need-put-behind-blank-requires
 put-behind-blank-requires c κs = search needs
 
--- src/lines.rt:91:20
 enum-known-said-2 : tie.Need-enum-known-said-2
 enum-known-said-2 c = search needs
 
--- src/lines.rt:92:34
 slice-aggregate-put-2 : tie.Need-slice-aggregate-put-2
 slice-aggregate-put-2 c = search needs
 
--- src/lines.rt:92:17
 put-requires-2 : tie.Need-put-requires-2
 put-requires-2 c κs = search needs
 
--- src/lines.rt:93:13
 put-integer-requires-2 : tie.Need-put-integer-requires-2
 put-integer-requires-2 c κs = search needs
 
--- src/lines.rt:95:21
 enum-known-said-3 : tie.Need-enum-known-said-3
 enum-known-said-3 c = search needs
 
--- src/lines.rt:96:34
 slice-aggregate-put-3 : tie.Need-slice-aggregate-put-3
 slice-aggregate-put-3 c = search needs
 
--- src/lines.rt:96:17
 put-requires-3 : tie.Need-put-requires-3
 put-requires-3 c κs = search needs
 
--- src/lines.rt:97:17
 put-natural-requires : tie.Need-put-natural-requires
 put-natural-requires c κs = search needs
 
--- src/lines.rt:98:39
 cast-put-behind-blank-2 : tie.Need-cast-put-behind-blank-2
 cast-put-behind-blank-2 c = search needs
 
--- src/lines.rt:98:13
 put-behind-blank-requires-2 : tie.Need-put-behind-blank-requires-2
 put-behind-blank-requires-2 c κs = search needs
 
--- src/lines.rt:100:21
 enum-known-said-4 : tie.Need-enum-known-said-4
 enum-known-said-4 c = search needs
 
--- src/lines.rt:101:34
 slice-aggregate-put-4 : tie.Need-slice-aggregate-put-4
 slice-aggregate-put-4 c = search needs
 
--- src/lines.rt:101:17
 put-requires-4 : tie.Need-put-requires-4
 put-requires-4 c κs = search needs
 
--- src/lines.rt:102:13
 put-order-requires : tie.Need-put-order-requires
 put-order-requires c κs = search needs
 
--- src/lines.rt:104:23
 enum-known-said-5 : tie.Need-enum-known-said-5
 enum-known-said-5 c = search needs
 
--- src/lines.rt:104:29
 put-refusal-requires : tie.Need-put-refusal-requires
 put-refusal-requires c κs = search needs
 
--- src/lines.rt:80:1
 same-length : tie.Need-same-length
 same-length c = search needs
 
--- src/lines.rt:80:1
 returns : tie.Need-returns
 unfolding line
 returns c = let f : SFits w64 (c .before .before .before .before .before .before .before .before .before .before .before .before .before .before .said .given .0 .0) = search needs in rw (c .before .before .before .before .before .before .before .before .before .before .before .before .before .before .said .given .1) (put-on (c .before .before .before .before .before .before .before .before .before .before .put .ensures) (put-on (rw (toZ-ofZ {w = w64} f) at (c .before .before .before .before .before .before .put-integer .ensures .0)) (c .before .before .put-behind-blank .ensures .0)), omega (arith, c .before .before .before .before .before .before .before .before .before .before .put .ensures .place, c .before .before .before .before .before .before .put-integer .ensures .1, c .before .before .put-behind-blank .ensures .1))
 
--- src/lines.rt:80:1
 same-length-2 : tie.Need-same-length-2
 same-length-2 c = search needs
 
--- src/lines.rt:80:1
 returns-2 : tie.Need-returns-2
 unfolding line
 returns-2 c = let f : SFits w64 (c .before .before .before .before .before .before .before .before .before .before .said2 .given .0 .0) = search needs in rw (c .before .before .before .before .before .before .before .before .before .before .said2 .given .1) (put-on (c .before .before .before .before .before .before .put2 .ensures) (rw (toZ-ofZ {w = w64} f) at (c .before .before .put-integer2 .ensures .0)), omega (arith, c .before .before .before .before .before .before .put2 .ensures .place, c .before .before .put-integer2 .ensures .1))
 
--- src/lines.rt:80:1
 same-length-3 : tie.Need-same-length-3
 same-length-3 c = search needs
 
--- src/lines.rt:80:1
 returns-3 : tie.Need-returns-3
 unfolding line
 returns-3 c = rw (c .before .before .before .before .before .before .before .before .before .before .before .before .before .before .said3 .given .1) (put-on (c .before .before .before .before .before .before .before .before .before .before .put3 .ensures) (put-on (c .before .before .before .before .before .before .put-natural .ensures .0) (c .before .before .put-behind-blank2 .ensures .0)), omega (arith, c .before .before .before .before .before .before .before .before .before .before .put3 .ensures .place, c .before .before .before .before .before .before .put-natural .ensures .1, c .before .before .put-behind-blank2 .ensures .1))
 
--- src/lines.rt:80:1
 same-length-4 : tie.Need-same-length-4
 same-length-4 c = search needs
 
--- src/lines.rt:80:1
 returns-4 : tie.Need-returns-4
 unfolding line
 returns-4 c = rw (c .before .before .before .before .before .before .before .before .before .before .said4 .given .1) (put-on (c .before .before .before .before .before .before .put4 .ensures) (c .before .before .put-order .ensures .0), omega (arith, c .before .before .before .before .before .before .put4 .ensures .place, c .before .before .put-order .ensures .1))
 
--- src/lines.rt:80:1
 same-length-5 : tie.Need-same-length-5
 same-length-5 c = search needs
 
--- src/lines.rt:80:1
 returns-5 : tie.Need-returns-5
 returns-5 c = rw (c .before .before .before .before .before .said5 .given .1) (c .before .before .put-refusal .ensures)
 

@@ -3,94 +3,70 @@ use Rattle.desk.specs.Numbers.{epoch}
 use borrow.Author.Needs.{needs}
 use Rattle.desk.proofs.numbers.parse_epoch.Statement.{statement}
 use Rattle.desk.proofs.numbers.parse_epoch.Tie as tie
-use Rattle.desk.proofs.numbers.parse_epoch.Reads as reads
-use Rattle.desk.proofs.numbers.parse_epoch.Lts as lts
-use Rattle.desk.proofs.numbers.parse_signed.Reads as parse-signed-reads
-use Rattle.desk.proofs.words.same.Reads as same-reads
 
--- src/numbers.rt:65:16
 slice-aggregate-same : tie.Need-slice-aggregate-same
 slice-aggregate-same c = search needs
 
--- src/numbers.rt:65:8
 same-requires : tie.Need-same-requires
 same-requires c κs = search needs
 
--- src/numbers.rt:66:9
 returns : tie.Need-returns
 unfolding epoch
 returns c = rw (← c .before .before .same .ensures, c .before .if1 .taken)
 
--- src/numbers.rt:68:16
 slice-aggregate-same-2 : tie.Need-slice-aggregate-same-2
 slice-aggregate-same-2 c = search needs
 
--- src/numbers.rt:68:8
 same-requires-2 : tie.Need-same-requires-2
 same-requires-2 c κs = search needs
 
--- src/numbers.rt:69:9
 returns-2 : tie.Need-returns-2
 unfolding epoch
 returns-2 c = rw (← c .before .before .before .before .before .same .ensures, c .before .before .before .before .if1 .left, ← c .before .before .same2 .ensures, c .before .if2 .taken)
 
--- src/numbers.rt:71:16
 slice-aggregate-same-3 : tie.Need-slice-aggregate-same-3
 slice-aggregate-same-3 c = search needs
 
--- src/numbers.rt:71:8
 same-requires-3 : tie.Need-same-requires-3
 same-requires-3 c κs = search needs
 
--- src/numbers.rt:72:9
 returns-3 : tie.Need-returns-3
 unfolding epoch
 returns-3 c = rw (← c .before .before .before .before .before .before .before .before .same .ensures, c .before .before .before .before .before .before .before .if1 .left, ← c .before .before .before .before .before .same2 .ensures, c .before .before .before .before .if2 .left, ← c .before .before .same3 .ensures, c .before .if3 .taken)
 
--- src/numbers.rt:74:16
 slice-aggregate-same-4 : tie.Need-slice-aggregate-same-4
 slice-aggregate-same-4 c = search needs
 
--- src/numbers.rt:74:8
 same-requires-4 : tie.Need-same-requires-4
 same-requires-4 c κs = search needs
 
--- src/numbers.rt:75:9
 returns-4 : tie.Need-returns-4
 unfolding epoch
 returns-4 c = rw (← c .before .before .before .before .before .before .before .before .before .before .before .same .ensures, c .before .before .before .before .before .before .before .before .before .before .if1 .left, ← c .before .before .before .before .before .before .before .before .same2 .ensures, c .before .before .before .before .before .before .before .if2 .left, ← c .before .before .before .before .before .same3 .ensures, c .before .before .before .before .if3 .left, ← c .before .before .same4 .ensures, c .before .if4 .taken)
 
--- src/numbers.rt:77:16
 slice-aggregate-same-5 : tie.Need-slice-aggregate-same-5
 slice-aggregate-same-5 c = search needs
 
--- src/numbers.rt:77:8
 same-requires-5 : tie.Need-same-requires-5
 same-requires-5 c κs = search needs
 
--- src/numbers.rt:78:9
 returns-5 : tie.Need-returns-5
 unfolding epoch
 returns-5 c = rw (← c .before .before .before .before .before .before .before .before .before .before .before .before .before .before .same .ensures, c .before .before .before .before .before .before .before .before .before .before .before .before .before .if1 .left, ← c .before .before .before .before .before .before .before .before .before .before .before .same2 .ensures, c .before .before .before .before .before .before .before .before .before .before .if2 .left, ← c .before .before .before .before .before .before .before .before .same3 .ensures, c .before .before .before .before .before .before .before .if3 .left, ← c .before .before .before .before .before .same4 .ensures, c .before .before .before .before .if4 .left, ← c .before .before .same5 .ensures, c .before .if5 .taken)
 
--- src/numbers.rt:80:16
 slice-aggregate-same-6 : tie.Need-slice-aggregate-same-6
 slice-aggregate-same-6 c = search needs
 
--- src/numbers.rt:80:8
 same-requires-6 : tie.Need-same-requires-6
 same-requires-6 c κs = search needs
 
--- src/numbers.rt:81:9
 returns-6 : tie.Need-returns-6
 unfolding epoch
 returns-6 c = rw (← c .before .before .before .before .before .before .before .before .before .before .before .before .before .before .before .before .before .same .ensures, c .before .before .before .before .before .before .before .before .before .before .before .before .before .before .before .before .if1 .left, ← c .before .before .before .before .before .before .before .before .before .before .before .before .before .before .same2 .ensures, c .before .before .before .before .before .before .before .before .before .before .before .before .before .if2 .left, ← c .before .before .before .before .before .before .before .before .before .before .before .same3 .ensures, c .before .before .before .before .before .before .before .before .before .before .if3 .left, ← c .before .before .before .before .before .before .before .before .same4 .ensures, c .before .before .before .before .before .before .before .if4 .left, ← c .before .before .before .before .before .same5 .ensures, c .before .before .before .before .if5 .left, ← c .before .before .same6 .ensures, c .before .if6 .taken)
 
--- src/numbers.rt:83:5
 parse-signed-requires : tie.Need-parse-signed-requires
 parse-signed-requires c κs = search needs
 
--- src/numbers.rt:62:1
 returns-7 : tie.Need-returns-7
 unfolding epoch
 returns-7 c = rw (← c .before .before .before .before .before .before .before .before .before .before .before .before .before .before .before .before .before .same .ensures, c .before .before .before .before .before .before .before .before .before .before .before .before .before .before .before .before .if1 .left, ← c .before .before .before .before .before .before .before .before .before .before .before .before .before .before .same2 .ensures, c .before .before .before .before .before .before .before .before .before .before .before .before .before .if2 .left, ← c .before .before .before .before .before .before .before .before .before .before .before .same3 .ensures, c .before .before .before .before .before .before .before .before .before .before .if3 .left, ← c .before .before .before .before .before .before .before .before .same4 .ensures, c .before .before .before .before .before .before .before .if4 .left, ← c .before .before .before .before .before .same5 .ensures, c .before .before .before .before .if5 .left, ← c .before .before .same6 .ensures, c .before .if6 .left) (c .parse-signed .ensures)

@@ -3,42 +3,30 @@ use Rattle.desk.specs.Numbers.{precision}
 use borrow.Author.Needs.{needs}
 use Rattle.desk.proofs.numbers.parse_precision.Statement.{statement}
 use Rattle.desk.proofs.numbers.parse_precision.Tie as tie
-use Rattle.desk.proofs.numbers.parse_precision.Reads as reads
-use Rattle.desk.proofs.numbers.parse_precision.Lts as lts
-use Rattle.desk.proofs.numbers.parse_unsigned.Reads as parse-unsigned-reads
-use Rattle.desk.proofs.words.same.Reads as same-reads
 
--- src/numbers.rt:90:16
 slice-aggregate-same : tie.Need-slice-aggregate-same
 slice-aggregate-same c = search needs
 
--- src/numbers.rt:90:8
 same-requires : tie.Need-same-requires
 same-requires c κs = search needs
 
--- src/numbers.rt:91:9
 returns : tie.Need-returns
 unfolding precision
 returns c = rw (← c .before .same .ensures, c .if1 .taken)
 
--- src/numbers.rt:93:11
 parse-unsigned-requires : tie.Need-parse-unsigned-requires
 parse-unsigned-requires c κs = search needs
 
--- src/numbers.rt:94:23
 enum-known-n : tie.Need-enum-known-n
 enum-known-n c = search needs
 
--- src/numbers.rt:95:24
 enum-told : tie.Need-enum-told
 enum-told c = search needs
 
--- src/numbers.rt:87:1
 returns-2 : tie.Need-returns-2
 unfolding precision
 returns-2 c = rw (← c .before .before .before .before .before .same .ensures, c .before .before .before .before .if1 .left, ← c .before .before .before .parse-unsigned .ensures, c .before .n .given .1)
 
--- src/numbers.rt:87:1
 returns-3 : tie.Need-returns-3
 unfolding precision
 returns-3 c = rw (← c .before .before .before .before .same .ensures, c .before .before .before .if1 .left, ← c .before .before .parse-unsigned .ensures, c .enum-told .given .1)

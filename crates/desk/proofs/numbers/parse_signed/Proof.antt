@@ -11,83 +11,61 @@ use Rattle.desk.proofs.Decimal.{unsigned-small, below-value}
 use borrow.Author.Needs.{needs}
 use Rattle.desk.proofs.numbers.parse_signed.Statement.{statement}
 use Rattle.desk.proofs.numbers.parse_signed.Tie as tie
-use Rattle.desk.proofs.numbers.parse_signed.Reads as reads
-use Rattle.desk.proofs.numbers.parse_signed.Lts as lts
-use Rattle.desk.proofs.numbers.parse_unsigned.Reads as parse-unsigned-reads
-use Rattle.reader.proofs.bytes.begins_with.Reads as begins-with-reads
-use Rattle.reader.proofs.bytes.skip.Reads as skip-reads
 
--- src/numbers.rt:46:8
 begins-with-requires : tie.Need-begins-with-requires
 begins-with-requires c κs = search needs
 
--- src/numbers.rt:47:50
 skip-requires : tie.Need-skip-requires
 skip-requires c κs = search needs
 
--- src/numbers.rt:47:62
 add-parse-unsigned : tie.Need-add-parse-unsigned
 add-parse-unsigned c = search needs
 
--- src/numbers.rt:47:35
 parse-unsigned-requires : tie.Need-parse-unsigned-requires
 parse-unsigned-requires c κs = search needs
 
--- src/numbers.rt:47:27
 enum-known-size : tie.Need-enum-known-size
 enum-known-size c = search needs
 
--- src/numbers.rt:48:13
 enum-told : tie.Need-enum-told
 enum-told c = search needs
 
--- src/numbers.rt:48:13
 returns : tie.Need-returns
 unfolding signed
 returns c = rw (← c .before .before .before .before .before .begins-with .ensures, c .before .before .before .before .if1 .taken, ← c .before .before .before .skip .ensures, ← c .before .before .parse-unsigned .ensures, c .enum-told .given .1)
 
--- src/numbers.rt:51:13
 returns-2 : tie.Need-returns-2
 unfolding signed
 returns-2 c = let z : c .before .before .size .given .0 .0 ≡ 0 = omega arith in rw (← c .before .before .before .before .before .before .before .begins-with .ensures, c .before .before .before .before .before .before .if1 .taken, ← c .before .before .before .before .before .skip .ensures, ← c .before .before .before .before .parse-unsigned .ensures, c .before .before .size .given .1, z)
 
--- src/numbers.rt:53:36
 cast-t10 : tie.Need-cast-t10
 cast-t10 c = let h = unsigned-small _ _ (sym (c .before .before .before .before .parse-unsigned .ensures) ∙ c .before .before .size .given .1) in let k : c .before .before .size .given .0 .0 - 1 < 2 ^ 63 = omega arith in search needs
 
--- src/numbers.rt:53:30
 sub-t11 : tie.Need-sub-t11
 sub-t11 c = omega (arith, lawsOfSigned, known (cast-t10 c))
 
--- src/numbers.rt:53:9
 returns-3 : tie.Need-returns-3
 unfolding signed
 returns-3 c = let n = c .before .before .size .given .0 .0 in
     let e : toZ w64 (ofZ w64 (negsuc 0 -ℤ toZ w64 (n - 1))) ≡ negsuc (n - 1) = omega (arith, lawsOfSigned, known (cast-t10 c), known (sub-t11 c)) in
     ap Signed.Value e ∙ rw (← c .before .before .before .before .before .before .before .begins-with .ensures, c .before .before .before .before .before .before .if1 .taken, ← c .before .before .before .before .before .skip .ensures, ← c .before .before .before .before .parse-unsigned .ensures, c .before .before .size .given .1) (sym (below-value n (omega arith)))
 
--- src/numbers.rt:55:31
 parse-unsigned-requires-2 : tie.Need-parse-unsigned-requires-2
 parse-unsigned-requires-2 c κs = search needs
 
--- src/numbers.rt:55:23
 enum-known-size-2 : tie.Need-enum-known-size-2
 enum-known-size-2 c = search needs
 
--- src/numbers.rt:56:9
 enum-told-2 : tie.Need-enum-told-2
 enum-told-2 c = search needs
 
--- src/numbers.rt:56:9
 returns-4 : tie.Need-returns-4
 unfolding signed
 returns-4 c = rw (← c .before .before .before .before .begins-with .ensures, c .before .before .before .if1 .left, ← c .before .before .parse-unsigned2 .ensures, c .enum-told2 .given .1)
 
--- src/numbers.rt:58:19
 cast-t13 : tie.Need-cast-t13
 cast-t13 c = let h = unsigned-small _ _ (sym (c .before .before .before .parse-unsigned2 .ensures) ∙ c .before .size2 .given .1) in let k : c .before .size2 .given .0 .0 < 2 ^ 63 = omega arith in search needs
 
--- src/numbers.rt:42:1
 returns-5 : tie.Need-returns-5
 unfolding signed
 returns-5 c = let n = c .before .size2 .given .0 .0 in

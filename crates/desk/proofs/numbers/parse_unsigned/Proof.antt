@@ -11,32 +11,22 @@ use Rattle.desk.proofs.Decimal.{no-plus, needless, as-read}
 use borrow.Author.Needs.{needs}
 use Rattle.desk.proofs.numbers.parse_unsigned.Statement.{statement}
 use Rattle.desk.proofs.numbers.parse_unsigned.Tie as tie
-use Rattle.desk.proofs.numbers.parse_unsigned.Reads as reads
-use Rattle.desk.proofs.numbers.parse_unsigned.Lts as lts
-use Rattle.reader.proofs.bytes.begins_with.Reads as begins-with-reads
-use Rattle.reader.proofs.numbers.parse_number.Reads as parse-number-reads
 
--- src/numbers.rt:30:8
 begins-with-requires : tie.Need-begins-with-requires
 begins-with-requires c κs = search needs
 
--- src/numbers.rt:31:9
 returns : tie.Need-returns
 returns c = no-plus _ _ (sym (c .before .begins-with .ensures) ∙ c .if1 .taken)
 
--- src/numbers.rt:33:8
 begins-with-requires-2 : tie.Need-begins-with-requires-2
 begins-with-requires-2 c κs = search needs
 
--- src/numbers.rt:35:13
 returns-2 : tie.Need-returns-2
 returns-2 c = needless _ _ (sym (c .before .before .begins-with2 .ensures) ∙ c .before .if2 .taken) (c .if3 .taken)
 
--- src/numbers.rt:38:5
 parse-number-requires : tie.Need-parse-number-requires
 parse-number-requires c κs = search needs
 
--- src/numbers.rt:27:1
 returns-3 : tie.Need-returns-3
 returns-3 c = let s = c .before .before .before .before .before .before .args .s .now in c .parse-number .ensures ∙ as-read _ _ (sym (c .before .before .before .before .begins-with .ensures) ∙ c .before .before .before .if1 .left) (⊎-elim (λ w. let e = le-ltb 1 (length s) (w .1 .left) in rw (e, and-false)) (λ w. let e : beginsWith 48 s ≡ false = sym (c .before .before .begins-with2 .ensures) ∙ w .left in rw e) (c .before .if2 .came))
 

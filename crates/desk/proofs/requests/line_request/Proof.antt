@@ -11,77 +11,55 @@ use Rattle.desk.proofs.Asks.{print-within}
 use borrow.Author.Needs.{needs}
 use Rattle.desk.proofs.requests.line_request.Statement.{statement}
 use Rattle.desk.proofs.requests.line_request.Tie as tie
-use Rattle.desk.proofs.requests.line_request.Reads as reads
-use Rattle.desk.proofs.requests.line_request.Lts as lts
-use Rattle.desk.proofs.fields.natural_field.Reads as natural-field-reads
-use Rattle.desk.proofs.requests.print_fields.Reads as print-fields-reads
-use Rattle.reader.proofs.bytes.begins_with.Reads as begins-with-reads
-use Rattle.reader.proofs.bytes.skip.Reads as skip-reads
 
--- src/requests.rt:376:62
 print-fields-requires : tie.Need-print-fields-requires
 print-fields-requires c κs = search needs
 
--- src/requests.rt:376:26
 enum-known-epoch : tie.Need-enum-known-epoch
 enum-known-epoch c = search needs
 
--- src/requests.rt:377:9
 enum-told : tie.Need-enum-told
 enum-told c = search needs
 
--- src/requests.rt:377:9
 returns : tie.Need-returns
 unfolding lineRequest
 returns c = rw (← c .before .before .print-fields .ensures, c .enum-told .given .1)
 
--- src/requests.rt:379:9
 skip-requires : tie.Need-skip-requires
 skip-requires c κs = search needs
 
--- src/requests.rt:380:31
 natural-field-requires : tie.Need-natural-field-requires
 natural-field-requires c κs = search needs
 
--- src/requests.rt:380:22
 enum-known-at : tie.Need-enum-known-at
 enum-known-at c = search needs
 
--- src/requests.rt:381:9
 enum-told-2 : tie.Need-enum-told-2
 enum-told-2 c = search needs
 
--- src/requests.rt:381:9
 returns-2 : tie.Need-returns-2
 unfolding lineRequest
 returns-2 c = rw (← c .before .before .before .before .before .before .before .print-fields .ensures, c .before .before .before .before .before .epoch .given .1, ← c .before .before .before .skip .ensures, ← c .before .before .natural-field .ensures, c .enum-told2 .given .1)
 
--- src/requests.rt:383:21
 skip-requires-2 : tie.Need-skip-requires-2
 skip-requires-2 c κs = search needs
 
--- src/requests.rt:383:9
 begins-with-requires : tie.Need-begins-with-requires
 begins-with-requires c κs = search needs
 
--- src/requests.rt:384:9
 returns-3 : tie.Need-returns-3
 unfolding lineRequest
 returns-3 c = rw (← c .before .before .before .before .before .before .before .before .before .before .before .print-fields .ensures, c .before .before .before .before .before .before .before .before .before .epoch .given .1, ← c .before .before .before .before .before .before .before .skip .ensures, ← c .before .before .before .before .before .before .natural-field .ensures, c .before .before .before .before .at .given .1, ← c .before .before .skip2 .ensures, ← c .before .begins-with .ensures, not-true (c .before .begins-with .result) (c .if1 .taken))
 
--- src/requests.rt:392:15
 add-t17 : tie.Need-add-t17
 add-t17 c = let k0 = simp length-drop at (ap length (c .before .before .before .before .before .before .before .skip .ensures)) in omega (arith, print-within _ (sym (c .before .before .before .before .before .before .before .before .before .before .before .print-fields .ensures) ∙ c .before .before .before .before .before .before .before .before .before .epoch .given .1), natural-within _ _ (sym (c .before .before .before .before .before .before .natural-field .ensures) ∙ c .before .before .before .before .at .given .1))
 
--- src/requests.rt:392:15
 add-t18 : tie.Need-add-t18
 add-t18 c = let k0 = simp length-drop at (ap length (c .before .before .before .before .before .before .before .skip .ensures)) in omega (arith, print-within _ (sym (c .before .before .before .before .before .before .before .before .before .before .before .print-fields .ensures) ∙ c .before .before .before .before .before .before .before .before .before .epoch .given .1), natural-within _ _ (sym (c .before .before .before .before .before .before .natural-field .ensures) ∙ c .before .before .before .before .at .given .1))
 
--- src/requests.rt:392:15
 add-t19 : tie.Need-add-t19
 add-t19 c = let k0 = simp length-drop at (ap length (c .before .before .before .before .before .before .before .skip .ensures)) in omega (arith, print-within _ (sym (c .before .before .before .before .before .before .before .before .before .before .before .print-fields .ensures) ∙ c .before .before .before .before .before .before .before .before .before .epoch .given .1), natural-within _ _ (sym (c .before .before .before .before .before .before .natural-field .ensures) ∙ c .before .before .before .before .at .given .1))
 
--- src/requests.rt:372:1
 returns-4 : tie.Need-returns-4
 unfolding lineRequest
 returns-4 c = let f0 : SFits w64 (c .before .before .before .before .before .before .before .before .before .epoch .given .0 .0) = search needs in let f1 : SFits w64 (c .before .before .before .before .before .before .before .before .before .epoch .given .0 .1 .0) = search needs in rw (toZ-ofZ {w = w64} f0, toZ-ofZ {w = w64} f1, ← c .before .before .before .before .before .before .before .before .before .before .before .print-fields .ensures, c .before .before .before .before .before .before .before .before .before .epoch .given .1, ← c .before .before .before .before .before .before .before .skip .ensures, ← c .before .before .before .before .before .before .natural-field .ensures, c .before .before .before .before .at .given .1, ← c .before .before .skip2 .ensures, ← c .before .begins-with .ensures, not-false (c .before .begins-with .result) (c .if1 .left))

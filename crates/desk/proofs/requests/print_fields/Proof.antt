@@ -10,81 +10,58 @@ use Rattle.desk.proofs.Rests.{epoch-within, stamp-within, digits-within
 use borrow.Author.Needs.{needs}
 use Rattle.desk.proofs.requests.print_fields.Statement.{statement}
 use Rattle.desk.proofs.requests.print_fields.Tie as tie
-use Rattle.desk.proofs.requests.print_fields.Reads as reads
-use Rattle.desk.proofs.requests.print_fields.Lts as lts
-use Rattle.desk.proofs.fields.epoch_field.Reads as epoch-field-reads
-use Rattle.desk.proofs.fields.precision_field.Reads as precision-field-reads
-use Rattle.desk.proofs.fields.stamp_field.Reads as stamp-field-reads
-use Rattle.reader.proofs.bytes.skip.Reads as skip-reads
 
--- src/requests.rt:162:32
 epoch-field-requires : tie.Need-epoch-field-requires
 epoch-field-requires c κs = search needs
 
--- src/requests.rt:162:20
 enum-known-epoch : tie.Need-enum-known-epoch
 enum-known-epoch c = search needs
 
--- src/requests.rt:163:9
 enum-told : tie.Need-enum-told
 enum-told c = search needs
 
--- src/requests.rt:163:9
 returns : tie.Need-returns
 unfolding printFields
 returns c = rw (← c .before .before .epoch-field .ensures, c .enum-told .given .1)
 
--- src/requests.rt:165:9
 skip-requires : tie.Need-skip-requires
 skip-requires c κs = search needs
 
--- src/requests.rt:166:38
 stamp-field-requires : tie.Need-stamp-field-requires
 stamp-field-requires c κs = search needs
 
--- src/requests.rt:166:20
 enum-known-secs : tie.Need-enum-known-secs
 enum-known-secs c = search needs
 
--- src/requests.rt:167:9
 enum-told-2 : tie.Need-enum-told-2
 enum-told-2 c = search needs
 
--- src/requests.rt:167:9
 returns-2 : tie.Need-returns-2
 unfolding printFields
 returns-2 c = rw (← c .before .before .before .before .before .before .before .epoch-field .ensures, c .before .before .before .before .before .epoch .given .1, ← c .before .before .before .skip .ensures, ← c .before .before .stamp-field .ensures, c .enum-told2 .given .1)
 
--- src/requests.rt:169:9
 skip-requires-2 : tie.Need-skip-requires-2
 skip-requires-2 c κs = search needs
 
--- src/requests.rt:170:37
 precision-field-requires : tie.Need-precision-field-requires
 precision-field-requires c κs = search needs
 
--- src/requests.rt:170:21
 enum-known-precision : tie.Need-enum-known-precision
 enum-known-precision c = search needs
 
--- src/requests.rt:171:9
 enum-told-3 : tie.Need-enum-told-3
 enum-told-3 c = search needs
 
--- src/requests.rt:171:9
 returns-3 : tie.Need-returns-3
 unfolding printFields
 returns-3 c = rw (← c .before .before .before .before .before .before .before .before .before .before .before .before .epoch-field .ensures, c .before .before .before .before .before .before .before .before .before .before .epoch .given .1, ← c .before .before .before .before .before .before .before .before .skip .ensures, ← c .before .before .before .before .before .before .before .stamp-field .ensures, c .before .before .before .before .before .secs .given .1, ← c .before .before .before .skip2 .ensures, ← c .before .before .precision-field .ensures, c .enum-told3 .given .1)
 
--- src/requests.rt:173:53
 add-t14 : tie.Need-add-t14
 add-t14 c = let k0 = simp length-drop at (ap length (c .before .before .before .before .before .before .before .before .before .skip .ensures)) in let k1 = simp length-drop at (ap length (c .before .before .before .before .skip2 .ensures)) in omega (arith, epoch-within _ (sym (c .before .before .before .before .before .before .before .before .before .before .before .before .before .epoch-field .ensures) ∙ c .before .before .before .before .before .before .before .before .before .before .before .epoch .given .1), stamp-within _ (sym (c .before .before .before .before .before .before .before .before .stamp-field .ensures) ∙ c .before .before .before .before .before .before .secs .given .1), digits-within _ (sym (c .before .before .before .precision-field .ensures) ∙ c .before .precision .given .1))
 
--- src/requests.rt:173:53
 add-t15 : tie.Need-add-t15
 add-t15 c = let k0 = simp length-drop at (ap length (c .before .before .before .before .before .before .before .before .before .skip .ensures)) in let k1 = simp length-drop at (ap length (c .before .before .before .before .skip2 .ensures)) in omega (arith, epoch-within _ (sym (c .before .before .before .before .before .before .before .before .before .before .before .before .before .epoch-field .ensures) ∙ c .before .before .before .before .before .before .before .before .before .before .before .epoch .given .1), stamp-within _ (sym (c .before .before .before .before .before .before .before .before .stamp-field .ensures) ∙ c .before .before .before .before .before .before .secs .given .1), digits-within _ (sym (c .before .before .before .precision-field .ensures) ∙ c .before .precision .given .1))
 
--- src/requests.rt:159:1
 returns-4 : tie.Need-returns-4
 unfolding printFields
 returns-4 c = let f0 : SFits w64 (c .before .before .before .before .before .before .before .before .before .before .before .epoch .given .0 .0) = search needs in let f1 : SFits w64 (c .before .before .before .before .before .before .secs .given .0 .0) = search needs in rw (toZ-ofZ {w = w64} f0, toZ-ofZ {w = w64} f1, ← c .before .before .before .before .before .before .before .before .before .before .before .before .before .epoch-field .ensures, c .before .before .before .before .before .before .before .before .before .before .before .epoch .given .1, ← c .before .before .before .before .before .before .before .before .before .skip .ensures, ← c .before .before .before .before .before .before .before .before .stamp-field .ensures, c .before .before .before .before .before .before .secs .given .1, ← c .before .before .before .before .skip2 .ensures, ← c .before .before .before .precision-field .ensures, c .before .precision .given .1)

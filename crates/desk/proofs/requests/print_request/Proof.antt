@@ -9,33 +9,24 @@ use Rattle.desk.specs.Requests.{printRequest}
 use borrow.Author.Needs.{needs}
 use Rattle.desk.proofs.requests.print_request.Statement.{statement}
 use Rattle.desk.proofs.requests.print_request.Tie as tie
-use Rattle.desk.proofs.requests.print_request.Reads as reads
-use Rattle.desk.proofs.requests.print_request.Lts as lts
-use Rattle.desk.proofs.requests.print_fields.Reads as print-fields-reads
 
--- src/requests.rt:358:62
 print-fields-requires : tie.Need-print-fields-requires
 print-fields-requires c κs = search needs
 
--- src/requests.rt:358:26
 enum-known-epoch : tie.Need-enum-known-epoch
 enum-known-epoch c = search needs
 
--- src/requests.rt:359:9
 enum-told : tie.Need-enum-told
 enum-told c = search needs
 
--- src/requests.rt:359:9
 returns : tie.Need-returns
 unfolding printRequest
 returns c = rw (← c .before .before .print-fields .ensures, c .enum-told .given .1)
 
--- src/requests.rt:362:9
 returns-2 : tie.Need-returns-2
 unfolding printRequest
 returns-2 c = rw (← c .before .before .before .before .print-fields .ensures, c .before .before .epoch .given .1, ne-eqb _ _ (c .if1 .taken))
 
--- src/requests.rt:355:1
 returns-3 : tie.Need-returns-3
 unfolding printRequest
 returns-3 c = let f0 : SFits w64 (c .before .before .epoch .given .0 .0) = search needs in let f1 : SFits w64 (c .before .before .epoch .given .0 .1 .0) = search needs in rw (toZ-ofZ {w = w64} f0, toZ-ofZ {w = w64} f1, ← c .before .before .before .before .print-fields .ensures, c .before .before .epoch .given .1, eq-eqb _ _ (c .if1 .left))

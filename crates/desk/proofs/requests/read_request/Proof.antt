@@ -10,56 +10,40 @@ use Rattle.desk.proofs.Rests.{epoch-within}
 use borrow.Author.Needs.{needs}
 use Rattle.desk.proofs.requests.read_request.Statement.{statement}
 use Rattle.desk.proofs.requests.read_request.Tie as tie
-use Rattle.desk.proofs.requests.read_request.Reads as reads
-use Rattle.desk.proofs.requests.read_request.Lts as lts
-use Rattle.desk.proofs.fields.epoch_field.Reads as epoch-field-reads
-use Rattle.reader.proofs.bytes.begins_with.Reads as begins-with-reads
-use Rattle.reader.proofs.bytes.skip.Reads as skip-reads
 
--- src/requests.rt:342:32
 epoch-field-requires : tie.Need-epoch-field-requires
 epoch-field-requires c κs = search needs
 
--- src/requests.rt:342:20
 enum-known-epoch : tie.Need-enum-known-epoch
 enum-known-epoch c = search needs
 
--- src/requests.rt:343:9
 enum-told : tie.Need-enum-told
 enum-told c = search needs
 
--- src/requests.rt:343:9
 returns : tie.Need-returns
 unfolding readRequest
 returns c = rw (← c .before .before .epoch-field .ensures, c .enum-told .given .1)
 
--- src/requests.rt:345:21
 skip-requires : tie.Need-skip-requires
 skip-requires c κs = search needs
 
--- src/requests.rt:345:9
 begins-with-requires : tie.Need-begins-with-requires
 begins-with-requires c κs = search needs
 
--- src/requests.rt:346:9
 returns-2 : tie.Need-returns-2
 unfolding readRequest
 returns-2 c = rw (← c .before .before .before .before .before .before .epoch-field .ensures, c .before .before .before .before .epoch .given .1, ← c .before .before .skip .ensures, ← c .before .begins-with .ensures, not-true (c .before .begins-with .result) (c .if1 .taken))
 
--- src/requests.rt:348:16
 add-from : tie.Need-add-from
 add-from c = omega (arith, epoch-within _ (sym (c .before .before .before .before .before .before .epoch-field .ensures) ∙ c .before .before .before .before .epoch .given .1))
 
--- src/requests.rt:348:16
 add-from-2 : tie.Need-add-from-2
 add-from-2 c = omega (arith, epoch-within _ (sym (c .before .before .before .before .before .before .epoch-field .ensures) ∙ c .before .before .before .before .epoch .given .1))
 
--- src/requests.rt:350:9
 returns-3 : tie.Need-returns-3
 unfolding readRequest
 returns-3 c = let f0 : SFits w64 (c .before .before .before .before .before .epoch .given .0 .0) = search needs in rw (toZ-ofZ {w = w64} f0, ← c .before .before .before .before .before .before .before .epoch-field .ensures, c .before .before .before .before .before .epoch .given .1, ← c .before .before .before .skip .ensures, ← c .before .before .begins-with .ensures, not-false (c .before .before .begins-with .result) (c .before .if1 .left), c .if2 .taken)
 
--- src/requests.rt:338:1
 returns-4 : tie.Need-returns-4
 unfolding readRequest
 returns-4 c = let f0 : SFits w64 (c .before .before .before .before .before .epoch .given .0 .0) = search needs in rw (toZ-ofZ {w = w64} f0, ← c .before .before .before .before .before .before .before .epoch-field .ensures, c .before .before .before .before .before .epoch .given .1, ← c .before .before .before .skip .ensures, ← c .before .before .begins-with .ensures, not-false (c .before .before .begins-with .result) (c .before .if1 .left), c .if2 .left)

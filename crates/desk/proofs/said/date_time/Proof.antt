@@ -8,27 +8,19 @@ use Rattle.desk.specs.Answers.{line, timeLine, durationLine, orderText}
 use borrow.Author.Needs.{needs}
 use Rattle.desk.proofs.said.date_time.Statement.{statement}
 use Rattle.desk.proofs.said.date_time.Tie as tie
-use Rattle.desk.proofs.said.date_time.Reads as reads
-use Rattle.desk.proofs.said.date_time.Lts as lts
-use Rattle.desk.proofs.said.of_date_time.Reads as of-date-time-reads
 
--- src/said.rt:123:28
 enum-known-a : tie.Need-enum-known-a
 enum-known-a c = search needs
 
--- src/said.rt:124:33
 enum-known-a-2 : tie.Need-enum-known-a-2
 enum-known-a-2 c = search needs
 
--- src/said.rt:124:53
 of-date-time-requires : tie.Need-of-date-time-requires
 of-date-time-requires c κs = search needs
 
--- src/said.rt:119:1
 returns : tie.Need-returns
 returns c = let t = c .before .before .a .given .0 .0 in let f : SFits w64 (t .secs) = search needs in ap (λ x. timeLine (gives (x, t .nanos))) (toZ-ofZ {w = w64} f) ∙ rw (c .before .before .a .given .1)
 
--- src/said.rt:119:1
 returns-2 : tie.Need-returns-2
 unfolding line
 returns-2 c = rw (c .before .before .a2 .given .1) (c .of-date-time .ensures)

@@ -8,27 +8,19 @@ use Rattle.desk.specs.Answers.{line, timeLine, durationLine, orderText}
 use borrow.Author.Needs.{needs}
 use Rattle.desk.proofs.said.duration.Statement.{statement}
 use Rattle.desk.proofs.said.duration.Tie as tie
-use Rattle.desk.proofs.said.duration.Reads as reads
-use Rattle.desk.proofs.said.duration.Lts as lts
-use Rattle.desk.proofs.said.of_count.Reads as of-count-reads
 
--- src/said.rt:150:31
 enum-known-a : tie.Need-enum-known-a
 enum-known-a c = search needs
 
--- src/said.rt:151:33
 enum-known-a-2 : tie.Need-enum-known-a-2
 enum-known-a-2 c = search needs
 
--- src/said.rt:151:53
 of-count-requires : tie.Need-of-count-requires
 of-count-requires c κs = search needs
 
--- src/said.rt:146:1
 returns : tie.Need-returns
 returns c = rw (c .before .a .given .1)
 
--- src/said.rt:146:1
 returns-2 : tie.Need-returns-2
 unfolding line
 returns-2 c = rw (c .before .before .a2 .given .1) (c .of-count .ensures)

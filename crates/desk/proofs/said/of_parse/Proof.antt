@@ -2,59 +2,43 @@ use Rattle.desk.specs.Answers.{line}
 use borrow.Author.Needs.{needs}
 use Rattle.desk.proofs.said.of_parse.Statement.{statement}
 use Rattle.desk.proofs.said.of_parse.Tie as tie
-use Rattle.desk.proofs.said.of_parse.Reads as reads
-use Rattle.desk.proofs.said.of_parse.Lts as lts
-use Rattle.desk.proofs.said.bare.Reads as bare-reads
-use Rattle.desk.proofs.said.of_date_time.Reads as of-date-time-reads
 
--- src/said.rt:84:45
 enum-told : tie.Need-enum-told
 enum-told c = search needs
 
--- src/said.rt:84:45
 bare-requires : tie.Need-bare-requires
 bare-requires c κs = search needs
 
--- src/said.rt:85:50
 enum-told-2 : tie.Need-enum-told-2
 enum-told-2 c = search needs
 
--- src/said.rt:85:50
 bare-requires-2 : tie.Need-bare-requires-2
 bare-requires-2 c κs = search needs
 
--- src/said.rt:86:50
 enum-told-3 : tie.Need-enum-told-3
 enum-told-3 c = search needs
 
--- src/said.rt:86:50
 bare-requires-3 : tie.Need-bare-requires-3
 bare-requires-3 c κs = search needs
 
--- src/said.rt:87:40
 enum-known-e : tie.Need-enum-known-e
 enum-known-e c = search needs
 
--- src/said.rt:87:46
 of-date-time-requires : tie.Need-of-date-time-requires
 of-date-time-requires c κs = search needs
 
--- src/said.rt:80:1
 returns : tie.Need-returns
 unfolding line
 returns c = rw (c .before .enum-told .given .1) (c .bare .ensures)
 
--- src/said.rt:80:1
 returns-2 : tie.Need-returns-2
 unfolding line
 returns-2 c = rw (c .before .enum-told2 .given .1) (c .bare2 .ensures)
 
--- src/said.rt:80:1
 returns-3 : tie.Need-returns-3
 unfolding line
 returns-3 c = rw (c .before .enum-told3 .given .1) (c .bare3 .ensures)
 
--- src/said.rt:80:1
 returns-4 : tie.Need-returns-4
 unfolding line
 returns-4 c = rw (c .before .before .e .given .1) (c .of-date-time .ensures)

@@ -1,43 +1,31 @@
 use borrow.Author.Needs.{needs}
 use Rattle.desk.proofs.said.of_print.Statement.{statement}
 use Rattle.desk.proofs.said.of_print.Tie as tie
-use Rattle.desk.proofs.said.of_print.Reads as reads
-use Rattle.desk.proofs.said.of_print.Lts as lts
-use Rattle.desk.proofs.said.bare.Reads as bare-reads
 
--- src/said.rt:104:33
 enum-told : tie.Need-enum-told
 enum-told c = search needs
 
--- src/said.rt:104:33
 bare-requires : tie.Need-bare-requires
 bare-requires c κs = search needs
 
--- src/said.rt:105:37
 enum-told-2 : tie.Need-enum-told-2
 enum-told-2 c = search needs
 
--- src/said.rt:105:37
 bare-requires-2 : tie.Need-bare-requires-2
 bare-requires-2 c κs = search needs
 
--- src/said.rt:106:31
 enum-told-3 : tie.Need-enum-told-3
 enum-told-3 c = search needs
 
--- src/said.rt:106:31
 bare-requires-3 : tie.Need-bare-requires-3
 bare-requires-3 c κs = search needs
 
--- src/said.rt:100:1
 returns : tie.Need-returns
 returns c = rw (c .before .enum-told .given .1) (c .bare .ensures)
 
--- src/said.rt:100:1
 returns-2 : tie.Need-returns-2
 returns-2 c = rw (c .before .enum-told2 .given .1) (c .bare2 .ensures)
 
--- src/said.rt:100:1
 returns-3 : tie.Need-returns-3
 returns-3 c = rw (c .before .enum-told3 .given .1) (c .bare3 .ensures)
 

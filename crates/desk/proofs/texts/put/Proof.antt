@@ -7,8 +7,6 @@ use lib.Seq.{sets}
 use Rattle.desk.proofs.Puts.{sets-next, sets-done}
 use Rattle.desk.proofs.texts.put.Statement.{statement}
 use Rattle.desk.proofs.texts.put.Tie as tie
-use Rattle.desk.proofs.texts.put.Reads as reads
-use Rattle.desk.proofs.texts.put.Lts as lts
 
 abbrev Inv-loop : tie.InvT-loop
 Inv-loop out₀ at text i₀ out i = (i ≤ length text) × (length out ≡ length out₀) × (sets out₀ at text ≡ sets out (at + i) (drop i text))
@@ -16,43 +14,33 @@ Inv-loop out₀ at text i₀ out i = (i ≤ length text) × (length out ≡ leng
 abbrev μ-loop : tie.MeasureT-loop
 μ-loop out₀ at text i₀ out i = length text - i
 
--- src/texts.rt:21:5
 loop-holds : tie.Need-loop-holds Inv-loop μ-loop
 loop-holds c = (omega arith, refl, rw add-zero)
 
--- src/texts.rt:22:23
 shared-slice-read-out : tie.Need-shared-slice-read-out Inv-loop μ-loop
 shared-slice-read-out c = omega arith
 
--- src/texts.rt:22:13
 add-out : tie.Need-add-out Inv-loop μ-loop
 add-out c = omega arith
 
--- src/texts.rt:22:9
 slice-write-out : tie.Need-slice-write-out Inv-loop μ-loop
 slice-write-out c = omega arith
 
--- src/texts.rt:23:9
 add-i : tie.Need-add-i Inv-loop μ-loop
 add-i c = omega arith
 
--- src/texts.rt:21:5
 loop-less : tie.Need-loop-less Inv-loop μ-loop
 loop-less c = omega arith
 
--- src/texts.rt:21:5
 loop-again : tie.Need-loop-again Inv-loop μ-loop
 loop-again c = (omega arith, simp length-set (c .before .before .loop .inv .1), c .before .before .loop .inv .2 ∙ sets-next _ _ _ (c .before .before .loop .i) (omega arith))
 
--- src/texts.rt:25:5
 add-result : tie.Need-add-result Inv-loop μ-loop
 add-result c = omega arith
 
--- src/texts.rt:16:1
 same-length : tie.Need-same-length Inv-loop μ-loop
 same-length c = c .before .loop .inv .1
 
--- src/texts.rt:16:1
 returns : tie.Need-returns Inv-loop μ-loop
 returns c = record { line = sym (c .before .loop .inv .2 ∙ sets-done _ _ _ (c .before .loop .i) (omega arith)); place = omega arith }
 

@@ -18,42 +18,31 @@ use Rattle.desk.proofs.Puts.{put-on, put-one}
 use borrow.Author.Needs.{needs}
 use Rattle.desk.proofs.texts.put_integer.Statement.{statement}
 use Rattle.desk.proofs.texts.put_integer.Tie as tie
-use Rattle.desk.proofs.texts.put_integer.Reads as reads
-use Rattle.desk.proofs.texts.put_integer.Lts as lts
-use Rattle.desk.proofs.texts.put_natural.Reads as put-natural-reads
 
 here : (s : tie.Start) → let y = s .args .n in Known w64 y × (natAbs y ≡ plus y + minus y) × (min (plus y) (minus y) ≡ 0)
 here s = (known (s .fits .n), size-law (s .args .n), apart (s .args .n))
 
--- src/texts.rt:61:9
 slice-write-out : tie.Need-slice-write-out
 slice-write-out c = search needs
 
--- src/texts.rt:62:33
 add-put-natural : tie.Need-add-put-natural
 add-put-natural c = search needs
 
--- src/texts.rt:62:42
 sub-put-natural : tie.Need-sub-put-natural
 sub-put-natural c = omega (arith, signed, here (search))
 
--- src/texts.rt:62:41
 cast-put-natural : tie.Need-cast-put-natural
 cast-put-natural c = omega (arith, signed, here (search), known (sub-put-natural (search)))
 
--- src/texts.rt:62:41
 add-put-natural-2 : tie.Need-add-put-natural-2
 add-put-natural-2 c = omega (arith, signed, here (search), known (sub-put-natural (search)), cast-put-natural (search))
 
--- src/texts.rt:62:9
 put-natural-requires : tie.Need-put-natural-requires
 put-natural-requires c κs = simp length-set (omega arith)
 
--- src/texts.rt:62:9
 same-length : tie.Need-same-length
 same-length c = c .before .before .put-natural .kept .0 ∙ simp length-set
 
--- src/texts.rt:62:9
 returns : tie.Need-returns
 unfolding integer
 returns c = let y = c .before .before .before .before .before .before .args .n in
@@ -63,19 +52,15 @@ returns c = let y = c .before .before .before .before .before .before .args .n i
     let t : integer y ≡ 45 ∷ natural (m + 1) = ap integer e ∙ ap (λ k. 45 ∷ natural k) (sym (add-one m)) in
     (rw t (put-on (put-one _ _ 45) (c .before .before .put-natural .ensures .0)), omega (arith, c .before .before .put-natural .ensures .1))
 
--- src/texts.rt:64:26
 cast-put-natural-2 : tie.Need-cast-put-natural-2
 cast-put-natural-2 c = omega (arith, signed, here (search))
 
--- src/texts.rt:64:5
 put-natural-requires-2 : tie.Need-put-natural-requires-2
 put-natural-requires-2 c κs = search needs
 
--- src/texts.rt:55:1
 same-length-2 : tie.Need-same-length-2
 same-length-2 c = search needs
 
--- src/texts.rt:55:1
 returns-2 : tie.Need-returns-2
 unfolding integer
 returns-2 c = let e = atLeastZero (c .before .before .before .before .before .before .fits .n) (c .before .before .before .before .if1 .left) in

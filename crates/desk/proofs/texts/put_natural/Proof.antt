@@ -9,9 +9,6 @@ use Rattle.printer.proofs.Decimal.{last-first, digits-length}
 use Rattle.desk.specs.Texts.{natural}
 use Rattle.desk.proofs.texts.put_natural.Statement.{statement}
 use Rattle.desk.proofs.texts.put_natural.Tie as tie
-use Rattle.desk.proofs.texts.put_natural.Reads as reads
-use Rattle.desk.proofs.texts.put_natural.Lts as lts
-use Rattle.desk.proofs.texts.width.Reads as width-reads
 
 abbrev Inv-loop : tie.InvT-loop
 Inv-loop out₀ at n w left₀ m₀ out left m = (left ≤ w) × (w ≤ 20) × (length out ≡ length out₀) × (sets out₀ at (digits w n) ≡ sets out at (digits left m))
@@ -19,51 +16,39 @@ Inv-loop out₀ at n w left₀ m₀ out left m = (left ≤ w) × (w ≤ 20) × (
 abbrev μ-loop : tie.MeasureT-loop
 μ-loop out₀ at n w left₀ m₀ out left m = left
 
--- src/texts.rt:44:9
 width-requires : tie.Need-width-requires Inv-loop μ-loop
 width-requires c κs = search needs
 
--- src/texts.rt:47:5
 loop-holds : tie.Need-loop-holds Inv-loop μ-loop
 loop-holds c = (omega arith, c .width .ensures .1, refl, refl)
 
--- src/texts.rt:48:9
 sub-left : tie.Need-sub-left Inv-loop μ-loop
 sub-left c = omega arith
 
--- src/texts.rt:49:31
 cast-out : tie.Need-cast-out Inv-loop μ-loop
 cast-out c = omega arith
 
--- src/texts.rt:49:26
 add-out : tie.Need-add-out Inv-loop μ-loop
 add-out c = omega arith
 
--- src/texts.rt:49:13
 add-out-2 : tie.Need-add-out-2 Inv-loop μ-loop
 add-out-2 c = omega arith
 
--- src/texts.rt:49:9
 slice-write-out : tie.Need-slice-write-out Inv-loop μ-loop
 slice-write-out c = omega arith
 
--- src/texts.rt:47:5
 loop-less : tie.Need-loop-less Inv-loop μ-loop
 loop-less c = omega arith
 
--- src/texts.rt:47:5
 loop-again : tie.Need-loop-again Inv-loop μ-loop
 loop-again c = (omega arith, c .before .loop .inv .1, simp length-set (c .before .loop .inv .2), c .before .loop .inv .3 ∙ last-first _ _ (c .before .loop .left) _ (omega arith))
 
--- src/texts.rt:52:5
 add-result : tie.Need-add-result Inv-loop μ-loop
 add-result c = omega arith
 
--- src/texts.rt:39:1
 same-length : tie.Need-same-length Inv-loop μ-loop
 same-length c = c .before .loop .inv .2
 
--- src/texts.rt:39:1
 returns : tie.Need-returns Inv-loop μ-loop
 unfolding natural digits
 returns c = let z : c .before .loop .left ≡ 0 = omega arith in

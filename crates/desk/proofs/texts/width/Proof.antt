@@ -8,8 +8,6 @@ use Rattle.printer.specs.Text.{widthFrom}
 use Rattle.printer.proofs.Width.{here, more}
 use Rattle.desk.proofs.texts.width.Statement.{statement}
 use Rattle.desk.proofs.texts.width.Tie as tie
-use Rattle.desk.proofs.texts.width.Reads as reads
-use Rattle.desk.proofs.texts.width.Lts as lts
 
 abbrev Inv-loop : tie.InvT-loop
 Inv-loop n w₀ power₀ w power = (1 ≤ w) × (w ≤ 19) × (power ≡ 10 ^ w) × (widthFrom 19 1 n ≡ widthFrom (20 - w) w n)
@@ -17,15 +15,12 @@ Inv-loop n w₀ power₀ w power = (1 ≤ w) × (w ≤ 19) × (power ≡ 10 ^ w)
 abbrev μ-loop : tie.MeasureT-loop
 μ-loop n w₀ power₀ w power = 20 - w
 
--- src/texts.rt:34:5
 loop-holds : tie.Need-loop-holds Inv-loop μ-loop
 loop-holds c = (omega arith, omega arith, refl, refl)
 
--- src/texts.rt:35:9
 add-w : tie.Need-add-w Inv-loop μ-loop
 add-w c = omega arith
 
--- src/texts.rt:37:13
 returns : tie.Need-returns Inv-loop μ-loop
 unfolding widthFrom
 returns c = let i = c .before .before .loop .inv in
@@ -34,22 +29,18 @@ returns c = let i = c .before .before .loop .inv in
     let b : c .before .before .loop .w + 1 ≡ 20 = omega arith in
     (sym (i .3 ∙ more (20 - c .before .before .loop .w) (c .before .before .loop .w) _ (omega arith) h ∙ rw (a, b)), omega arith)
 
--- src/texts.rt:39:9
 mul-power : tie.Need-mul-power Inv-loop μ-loop
 mul-power c = let h = pow-le-pow-right {n = 10} (lit< tt) {i = c .before .before .loop .w} {j = 18} (omega arith) in omega arith
 
--- src/texts.rt:34:5
 loop-less : tie.Need-loop-less Inv-loop μ-loop
 loop-less c = omega arith
 
--- src/texts.rt:34:5
 loop-again : tie.Need-loop-again Inv-loop μ-loop
 loop-again c = let i = c .before .before .loop .inv in
     let h = rw (i .2) at (c .before .loop-test .taken) in
     let e : 20 - c .before .before .loop .w - 1 ≡ 20 - (c .before .before .loop .w + 1) = omega arith in
     (omega arith, omega arith, rw (add-one, pow-suc) (ap (λ x. x * 10) (i .2)), i .3 ∙ more (20 - c .before .before .loop .w) (c .before .before .loop .w) _ (omega arith) h ∙ rw e)
 
--- src/texts.rt:28:1
 returns-2 : tie.Need-returns-2 Inv-loop μ-loop
 returns-2 c = (sym (c .before .loop .inv .3 ∙ here _ _ _ (rw (c .before .loop .inv .2) at (c .loop-test .left))), omega arith)
 

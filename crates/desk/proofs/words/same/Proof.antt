@@ -6,8 +6,6 @@ use Rattle.desk.specs.Words.{alike}
 use Rattle.desk.proofs.Splits.{alike-other, alike-differ, alike-more, alike-end}
 use Rattle.desk.proofs.words.same.Statement.{statement}
 use Rattle.desk.proofs.words.same.Tie as tie
-use Rattle.desk.proofs.words.same.Reads as reads
-use Rattle.desk.proofs.words.same.Lts as lts
 
 abbrev Inv-loop : tie.InvT-loop
 Inv-loop s t i₀ i = (i ≤ length s) × (length s ≡ length t) × (alike s t ≡ alike (drop i s) (drop i t))
@@ -15,39 +13,30 @@ Inv-loop s t i₀ i = (i ≤ length s) × (length s ≡ length t) × (alike s t 
 abbrev μ-loop : tie.MeasureT-loop
 μ-loop s t i₀ i = length s - i
 
--- src/words.rt:26:9
 returns : tie.Need-returns Inv-loop μ-loop
 returns c = alike-other _ _ (c .if1 .taken)
 
--- src/words.rt:29:5
 loop-holds : tie.Need-loop-holds Inv-loop μ-loop
 loop-holds c = (omega arith, c .if1 .left, refl)
 
--- src/words.rt:30:12
 shared-slice-read-if2 : tie.Need-shared-slice-read-if2 Inv-loop μ-loop
 shared-slice-read-if2 c = omega arith
 
--- src/words.rt:30:20
 shared-slice-read-if2-2 : tie.Need-shared-slice-read-if2-2 Inv-loop μ-loop
 shared-slice-read-if2-2 c = omega arith
 
--- src/words.rt:31:13
 returns-2 : tie.Need-returns-2 Inv-loop μ-loop
 returns-2 c = alike-differ _ _ (c .before .before .before .before .loop .i) (omega arith) (omega arith) (c .if2 .taken) ∙ sym (c .before .before .before .before .loop .inv .2)
 
--- src/words.rt:33:9
 add-i : tie.Need-add-i Inv-loop μ-loop
 add-i c = omega arith
 
--- src/words.rt:29:5
 loop-less : tie.Need-loop-less Inv-loop μ-loop
 loop-less c = omega arith
 
--- src/words.rt:29:5
 loop-again : tie.Need-loop-again Inv-loop μ-loop
 loop-again c = (omega arith, c .before .before .before .before .loop .inv .1, c .before .before .before .before .loop .inv .2 ∙ alike-more _ _ (c .before .before .before .before .loop .i) (omega arith) (omega arith) (c .if2 .left))
 
--- src/words.rt:22:1
 returns-3 : tie.Need-returns-3 Inv-loop μ-loop
 returns-3 c = alike-end _ _ (c .before .loop .i) (omega arith) (omega arith) ∙ sym (c .before .loop .inv .2)
 

@@ -6,8 +6,6 @@ use Rattle.desk.specs.Words.{wordLength}
 use Rattle.desk.proofs.Splits.{word-found, word-more, word-end}
 use Rattle.desk.proofs.words.word_length.Statement.{statement}
 use Rattle.desk.proofs.words.word_length.Tie as tie
-use Rattle.desk.proofs.words.word_length.Reads as reads
-use Rattle.desk.proofs.words.word_length.Lts as lts
 
 abbrev Inv-loop : tie.InvT-loop
 Inv-loop s i₀ i = (i ≤ length s) × (wordLength s ≡ i + wordLength (drop i s))
@@ -15,31 +13,24 @@ Inv-loop s i₀ i = (i ≤ length s) × (wordLength s ≡ i + wordLength (drop i
 abbrev μ-loop : tie.MeasureT-loop
 μ-loop s i₀ i = length s - i
 
--- src/words.rt:13:5
 loop-holds : tie.Need-loop-holds Inv-loop μ-loop
 loop-holds c = omega arith
 
--- src/words.rt:14:12
 shared-slice-read-if1 : tie.Need-shared-slice-read-if1 Inv-loop μ-loop
 shared-slice-read-if1 c = omega arith
 
--- src/words.rt:15:13
 returns : tie.Need-returns Inv-loop μ-loop
 returns c = (sym (c .before .before .before .loop .inv .1 ∙ word-found _ _ (omega arith) (c .if1 .taken)), omega arith)
 
--- src/words.rt:17:9
 add-i : tie.Need-add-i Inv-loop μ-loop
 add-i c = omega arith
 
--- src/words.rt:13:5
 loop-less : tie.Need-loop-less Inv-loop μ-loop
 loop-less c = omega arith
 
--- src/words.rt:13:5
 loop-again : tie.Need-loop-again Inv-loop μ-loop
 loop-again c = (omega arith, c .before .before .before .loop .inv .1 ∙ word-more _ _ (omega arith) (c .if1 .left))
 
--- src/words.rt:8:1
 returns-2 : tie.Need-returns-2 Inv-loop μ-loop
 returns-2 c = (sym (c .before .loop .inv .1 ∙ word-end _ _ (omega arith)), omega arith)
 

@@ -7,85 +7,62 @@ use mir.Val.{SFits, toZ, ofZ}
 use borrow.Author.Tests.{eq-eqb, ne-eqb, not-true, not-false}
 use Rattle.desk.specs.Requests.{unixRequest}
 use borrow.Author.Needs.{needs}
-use Rattle.desk.proofs.requests.unix_request.Statement.{statement}
-use Rattle.desk.proofs.requests.unix_request.Tie as tie
-use Rattle.desk.proofs.requests.unix_request.Reads as reads
-use Rattle.desk.proofs.requests.unix_request.Lts as lts
-use Rattle.desk.proofs.fields.epoch_field.Reads as epoch-field-reads
-use Rattle.desk.proofs.fields.stamp_field.Reads as stamp-field-reads
-use Rattle.desk.proofs.fields.whole_field.Reads as whole-field-reads
-use Rattle.reader.proofs.bytes.skip.Reads as skip-reads
+use Rattle.desk.proofs.count.unix_request.Statement.{statement}
+use Rattle.desk.proofs.count.unix_request.Tie as tie
 
--- src/requests.rt:220:32
 epoch-field-requires : tie.Need-epoch-field-requires
 epoch-field-requires c κs = search needs
 
--- src/requests.rt:220:20
 enum-known-epoch : tie.Need-enum-known-epoch
 enum-known-epoch c = search needs
 
--- src/requests.rt:221:9
 enum-told : tie.Need-enum-told
 enum-told c = search needs
 
--- src/requests.rt:221:9
 returns : tie.Need-returns
 unfolding unixRequest
 returns c = rw (← c .before .before .epoch-field .ensures, c .enum-told .given .1)
 
--- src/requests.rt:223:9
 skip-requires : tie.Need-skip-requires
 skip-requires c κs = search needs
 
--- src/requests.rt:224:38
 stamp-field-requires : tie.Need-stamp-field-requires
 stamp-field-requires c κs = search needs
 
--- src/requests.rt:224:20
 enum-known-secs : tie.Need-enum-known-secs
 enum-known-secs c = search needs
 
--- src/requests.rt:225:9
 enum-told-2 : tie.Need-enum-told-2
 enum-told-2 c = search needs
 
--- src/requests.rt:225:9
 returns-2 : tie.Need-returns-2
 unfolding unixRequest
 returns-2 c = rw (← c .before .before .before .before .before .before .before .epoch-field .ensures, c .before .before .before .before .before .epoch .given .1, ← c .before .before .before .skip .ensures, ← c .before .before .stamp-field .ensures, c .enum-told2 .given .1)
 
--- src/requests.rt:227:9
 skip-requires-2 : tie.Need-skip-requires-2
 skip-requires-2 c κs = search needs
 
--- src/requests.rt:228:31
 whole-field-requires : tie.Need-whole-field-requires
 whole-field-requires c κs = search needs
 
--- src/requests.rt:228:20
 enum-known-leap : tie.Need-enum-known-leap
 enum-known-leap c = search needs
 
--- src/requests.rt:229:9
 enum-told-3 : tie.Need-enum-told-3
 enum-told-3 c = search needs
 
--- src/requests.rt:229:9
 returns-3 : tie.Need-returns-3
 unfolding unixRequest
 returns-3 c = rw (← c .before .before .before .before .before .before .before .before .before .before .before .before .epoch-field .ensures, c .before .before .before .before .before .before .before .before .before .before .epoch .given .1, ← c .before .before .before .before .before .before .before .before .skip .ensures, ← c .before .before .before .before .before .before .before .stamp-field .ensures, c .before .before .before .before .before .secs .given .1, ← c .before .before .before .skip2 .ensures, ← c .before .before .whole-field .ensures, c .enum-told3 .given .1)
 
--- src/requests.rt:232:9
 returns-4 : tie.Need-returns-4
 unfolding unixRequest
 returns-4 c = rw (← c .before .before .before .before .before .before .before .before .before .before .before .before .before .before .epoch-field .ensures, c .before .before .before .before .before .before .before .before .before .before .before .before .epoch .given .1, ← c .before .before .before .before .before .before .before .before .before .before .skip .ensures, ← c .before .before .before .before .before .before .before .before .before .stamp-field .ensures, c .before .before .before .before .before .before .before .secs .given .1, ← c .before .before .before .before .before .skip2 .ensures, ← c .before .before .before .before .whole-field .ensures, c .before .before .leap .given .1, ne-eqb _ _ (c .if1 .taken))
 
--- src/requests.rt:235:9
 returns-5 : tie.Need-returns-5
 unfolding unixRequest
 returns-5 c = let f0 : SFits w64 (c .before .before .before .before .before .before .before .before .before .before .before .before .before .epoch .given .0 .0) = search needs in let f1 : SFits w64 (c .before .before .before .before .before .before .before .before .secs .given .0 .0) = search needs in let f2 : SFits w64 (c .before .before .before .leap .given .0 .0) = search needs in rw (toZ-ofZ {w = w64} f0, toZ-ofZ {w = w64} f1, toZ-ofZ {w = w64} f2, ← c .before .before .before .before .before .before .before .before .before .before .before .before .before .before .before .epoch-field .ensures, c .before .before .before .before .before .before .before .before .before .before .before .before .before .epoch .given .1, ← c .before .before .before .before .before .before .before .before .before .before .before .skip .ensures, ← c .before .before .before .before .before .before .before .before .before .before .stamp-field .ensures, c .before .before .before .before .before .before .before .before .secs .given .1, ← c .before .before .before .before .before .before .skip2 .ensures, ← c .before .before .before .before .before .whole-field .ensures, c .before .before .before .leap .given .1, eq-eqb _ _ (c .before .if1 .left), c .if2 .taken)
 
--- src/requests.rt:217:1
 returns-6 : tie.Need-returns-6
 unfolding unixRequest
 returns-6 c = let f0 : SFits w64 (c .before .before .before .before .before .before .before .before .before .before .before .before .before .epoch .given .0 .0) = search needs in let f1 : SFits w64 (c .before .before .before .before .before .before .before .before .secs .given .0 .0) = search needs in let f2 : SFits w64 (c .before .before .before .leap .given .0 .0) = search needs in rw (toZ-ofZ {w = w64} f0, toZ-ofZ {w = w64} f1, toZ-ofZ {w = w64} f2, ← c .before .before .before .before .before .before .before .before .before .before .before .before .before .before .before .epoch-field .ensures, c .before .before .before .before .before .before .before .before .before .before .before .before .before .epoch .given .1, ← c .before .before .before .before .before .before .before .before .before .before .before .skip .ensures, ← c .before .before .before .before .before .before .before .before .before .before .stamp-field .ensures, c .before .before .before .before .before .before .before .before .secs .given .1, ← c .before .before .before .before .before .before .skip2 .ensures, ← c .before .before .before .before .before .whole-field .ensures, c .before .before .before .leap .given .1, eq-eqb _ _ (c .before .if1 .left), c .if2 .left)

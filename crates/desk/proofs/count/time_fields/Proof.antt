@@ -8,122 +8,91 @@ use borrow.Author.Tests.{eq-eqb, ne-eqb, not-true, not-false}
 use Rattle.desk.specs.Requests.{timeFields}
 use Rattle.desk.proofs.Rests.{natural-within}
 use borrow.Author.Needs.{needs}
-use Rattle.desk.proofs.requests.time_fields.Statement.{statement}
-use Rattle.desk.proofs.requests.time_fields.Tie as tie
-use Rattle.desk.proofs.requests.time_fields.Reads as reads
-use Rattle.desk.proofs.requests.time_fields.Lts as lts
-use Rattle.desk.proofs.fields.natural_field.Reads as natural-field-reads
-use Rattle.reader.proofs.bytes.skip.Reads as skip-reads
+use Rattle.desk.proofs.count.time_fields.Statement.{statement}
+use Rattle.desk.proofs.count.time_fields.Tie as tie
 
--- src/requests.rt:141:33
 natural-field-requires : tie.Need-natural-field-requires
 natural-field-requires c κs = search needs
 
--- src/requests.rt:141:22
 enum-known-hour : tie.Need-enum-known-hour
 enum-known-hour c = search needs
 
--- src/requests.rt:142:9
 enum-told : tie.Need-enum-told
 enum-told c = search needs
 
--- src/requests.rt:142:9
 returns : tie.Need-returns
 unfolding timeFields
 returns c = rw (← c .before .before .natural-field .ensures, c .enum-told .given .1)
 
--- src/requests.rt:144:9
 skip-requires : tie.Need-skip-requires
 skip-requires c κs = search needs
 
--- src/requests.rt:145:32
 natural-field-requires-2 : tie.Need-natural-field-requires-2
 natural-field-requires-2 c κs = search needs
 
--- src/requests.rt:145:22
 enum-known-min : tie.Need-enum-known-min
 enum-known-min c = search needs
 
--- src/requests.rt:146:9
 enum-told-2 : tie.Need-enum-told-2
 enum-told-2 c = search needs
 
--- src/requests.rt:146:9
 returns-2 : tie.Need-returns-2
 unfolding timeFields
 returns-2 c = rw (← c .before .before .before .before .before .before .before .natural-field .ensures, c .before .before .before .before .before .hour .given .1, ← c .before .before .before .skip .ensures, ← c .before .before .natural-field2 .ensures, c .enum-told2 .given .1)
 
--- src/requests.rt:148:9
 skip-requires-2 : tie.Need-skip-requires-2
 skip-requires-2 c κs = search needs
 
--- src/requests.rt:149:32
 natural-field-requires-3 : tie.Need-natural-field-requires-3
 natural-field-requires-3 c κs = search needs
 
--- src/requests.rt:149:22
 enum-known-sec : tie.Need-enum-known-sec
 enum-known-sec c = search needs
 
--- src/requests.rt:150:9
 enum-told-3 : tie.Need-enum-told-3
 enum-told-3 c = search needs
 
--- src/requests.rt:150:9
 returns-3 : tie.Need-returns-3
 unfolding timeFields
 returns-3 c = rw (← c .before .before .before .before .before .before .before .before .before .before .before .before .natural-field .ensures, c .before .before .before .before .before .before .before .before .before .before .hour .given .1, ← c .before .before .before .before .before .before .before .before .skip .ensures, ← c .before .before .before .before .before .before .before .natural-field2 .ensures, c .before .before .before .before .before .min .given .1, ← c .before .before .before .skip2 .ensures, ← c .before .before .natural-field3 .ensures, c .enum-told3 .given .1)
 
--- src/requests.rt:152:9
 skip-requires-3 : tie.Need-skip-requires-3
 skip-requires-3 c κs = search needs
 
--- src/requests.rt:153:33
 natural-field-requires-4 : tie.Need-natural-field-requires-4
 natural-field-requires-4 c κs = search needs
 
--- src/requests.rt:153:22
 enum-known-nano : tie.Need-enum-known-nano
 enum-known-nano c = search needs
 
--- src/requests.rt:154:9
 enum-told-4 : tie.Need-enum-told-4
 enum-told-4 c = search needs
 
--- src/requests.rt:154:9
 returns-4 : tie.Need-returns-4
 unfolding timeFields
 returns-4 c = rw (← c .before .before .before .before .before .before .before .before .before .before .before .before .before .before .before .before .before .natural-field .ensures, c .before .before .before .before .before .before .before .before .before .before .before .before .before .before .before .hour .given .1, ← c .before .before .before .before .before .before .before .before .before .before .before .before .before .skip .ensures, ← c .before .before .before .before .before .before .before .before .before .before .before .before .natural-field2 .ensures, c .before .before .before .before .before .before .before .before .before .before .min .given .1, ← c .before .before .before .before .before .before .before .before .skip2 .ensures, ← c .before .before .before .before .before .before .before .natural-field3 .ensures, c .before .before .before .before .before .sec .given .1, ← c .before .before .before .skip3 .ensures, ← c .before .before .natural-field4 .ensures, c .enum-told4 .given .1)
 
--- src/requests.rt:156:21
 cast-t17 : tie.Need-cast-t17
 cast-t17 c = omega (arith, natural-within _ _ (sym (c .before .before .before .before .before .before .before .before .before .before .before .before .before .before .before .before .before .before .natural-field .ensures) ∙ c .before .before .before .before .before .before .before .before .before .before .before .before .before .before .before .before .hour .given .1))
 
--- src/requests.rt:156:33
 cast-t18 : tie.Need-cast-t18
 cast-t18 c = omega (arith, natural-within _ _ (sym (c .before .before .before .before .before .before .before .before .before .before .before .before .before .natural-field2 .ensures) ∙ c .before .before .before .before .before .before .before .before .before .before .before .min .given .1))
 
--- src/requests.rt:156:44
 cast-t19 : tie.Need-cast-t19
 cast-t19 c = omega (arith, natural-within _ _ (sym (c .before .before .before .before .before .before .before .before .natural-field3 .ensures) ∙ c .before .before .before .before .before .before .sec .given .1))
 
--- src/requests.rt:156:55
 cast-t20 : tie.Need-cast-t20
 cast-t20 c = omega (arith, natural-within _ _ (sym (c .before .before .before .natural-field4 .ensures) ∙ c .before .nano .given .1))
 
--- src/requests.rt:156:68
 add-t21 : tie.Need-add-t21
 add-t21 c = let k0 = simp length-drop at (ap length (c .before .before .before .before .before .before .before .before .before .before .before .before .before .before .skip .ensures)) in let k1 = simp length-drop at (ap length (c .before .before .before .before .before .before .before .before .before .skip2 .ensures)) in let k2 = simp length-drop at (ap length (c .before .before .before .before .skip3 .ensures)) in omega (arith, natural-within _ _ (sym (c .before .before .before .before .before .before .before .before .before .before .before .before .before .before .before .before .before .before .natural-field .ensures) ∙ c .before .before .before .before .before .before .before .before .before .before .before .before .before .before .before .before .hour .given .1), natural-within _ _ (sym (c .before .before .before .before .before .before .before .before .before .before .before .before .before .natural-field2 .ensures) ∙ c .before .before .before .before .before .before .before .before .before .before .before .min .given .1), natural-within _ _ (sym (c .before .before .before .before .before .before .before .before .natural-field3 .ensures) ∙ c .before .before .before .before .before .before .sec .given .1), natural-within _ _ (sym (c .before .before .before .natural-field4 .ensures) ∙ c .before .nano .given .1))
 
--- src/requests.rt:156:68
 add-t22 : tie.Need-add-t22
 add-t22 c = let k0 = simp length-drop at (ap length (c .before .before .before .before .before .before .before .before .before .before .before .before .before .before .skip .ensures)) in let k1 = simp length-drop at (ap length (c .before .before .before .before .before .before .before .before .before .skip2 .ensures)) in let k2 = simp length-drop at (ap length (c .before .before .before .before .skip3 .ensures)) in omega (arith, natural-within _ _ (sym (c .before .before .before .before .before .before .before .before .before .before .before .before .before .before .before .before .before .before .natural-field .ensures) ∙ c .before .before .before .before .before .before .before .before .before .before .before .before .before .before .before .before .hour .given .1), natural-within _ _ (sym (c .before .before .before .before .before .before .before .before .before .before .before .before .before .natural-field2 .ensures) ∙ c .before .before .before .before .before .before .before .before .before .before .before .min .given .1), natural-within _ _ (sym (c .before .before .before .before .before .before .before .before .natural-field3 .ensures) ∙ c .before .before .before .before .before .before .sec .given .1), natural-within _ _ (sym (c .before .before .before .natural-field4 .ensures) ∙ c .before .nano .given .1))
 
--- src/requests.rt:156:68
 add-t23 : tie.Need-add-t23
 add-t23 c = let k0 = simp length-drop at (ap length (c .before .before .before .before .before .before .before .before .before .before .before .before .before .before .skip .ensures)) in let k1 = simp length-drop at (ap length (c .before .before .before .before .before .before .before .before .before .skip2 .ensures)) in let k2 = simp length-drop at (ap length (c .before .before .before .before .skip3 .ensures)) in omega (arith, natural-within _ _ (sym (c .before .before .before .before .before .before .before .before .before .before .before .before .before .before .before .before .before .before .natural-field .ensures) ∙ c .before .before .before .before .before .before .before .before .before .before .before .before .before .before .before .before .hour .given .1), natural-within _ _ (sym (c .before .before .before .before .before .before .before .before .before .before .before .before .before .natural-field2 .ensures) ∙ c .before .before .before .before .before .before .before .before .before .before .before .min .given .1), natural-within _ _ (sym (c .before .before .before .before .before .before .before .before .natural-field3 .ensures) ∙ c .before .before .before .before .before .before .sec .given .1), natural-within _ _ (sym (c .before .before .before .natural-field4 .ensures) ∙ c .before .nano .given .1))
 
--- src/requests.rt:138:1
 returns-5 : tie.Need-returns-5
 unfolding timeFields
 returns-5 c = rw (← c .before .before .before .before .before .before .before .before .before .before .before .before .before .before .before .before .before .before .natural-field .ensures, c .before .before .before .before .before .before .before .before .before .before .before .before .before .before .before .before .hour .given .1, ← c .before .before .before .before .before .before .before .before .before .before .before .before .before .before .skip .ensures, ← c .before .before .before .before .before .before .before .before .before .before .before .before .before .natural-field2 .ensures, c .before .before .before .before .before .before .before .before .before .before .before .min .given .1, ← c .before .before .before .before .before .before .before .before .before .skip2 .ensures, ← c .before .before .before .before .before .before .before .before .natural-field3 .ensures, c .before .before .before .before .before .before .sec .given .1, ← c .before .before .before .before .skip3 .ensures, ← c .before .before .before .natural-field4 .ensures, c .before .nano .given .1)

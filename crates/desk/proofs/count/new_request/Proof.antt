@@ -7,35 +7,26 @@ use mir.Val.{SFits, toZ, ofZ}
 use borrow.Author.Tests.{eq-eqb, ne-eqb, not-true, not-false}
 use Rattle.desk.specs.Requests.{newRequest}
 use borrow.Author.Needs.{needs}
-use Rattle.desk.proofs.requests.new_request.Statement.{statement}
-use Rattle.desk.proofs.requests.new_request.Tie as tie
-use Rattle.desk.proofs.requests.new_request.Reads as reads
-use Rattle.desk.proofs.requests.new_request.Lts as lts
-use Rattle.desk.proofs.fields.stamp_field.Reads as stamp-field-reads
+use Rattle.desk.proofs.count.new_request.Statement.{statement}
+use Rattle.desk.proofs.count.new_request.Tie as tie
 
--- src/requests.rt:179:38
 stamp-field-requires : tie.Need-stamp-field-requires
 stamp-field-requires c κs = search needs
 
--- src/requests.rt:179:20
 enum-known-secs : tie.Need-enum-known-secs
 enum-known-secs c = search needs
 
--- src/requests.rt:180:9
 enum-told : tie.Need-enum-told
 enum-told c = search needs
 
--- src/requests.rt:180:9
 returns : tie.Need-returns
 unfolding newRequest
 returns c = rw (← c .before .before .stamp-field .ensures, c .enum-told .given .1)
 
--- src/requests.rt:183:9
 returns-2 : tie.Need-returns-2
 unfolding newRequest
 returns-2 c = rw (← c .before .before .before .before .stamp-field .ensures, c .before .before .secs .given .1, ne-eqb _ _ (c .if1 .taken))
 
--- src/requests.rt:176:1
 returns-3 : tie.Need-returns-3
 unfolding newRequest
 returns-3 c = let f0 : SFits w64 (c .before .before .secs .given .0 .0) = search needs in rw (toZ-ofZ {w = w64} f0, ← c .before .before .before .before .stamp-field .ensures, c .before .before .secs .given .1, eq-eqb _ _ (c .if1 .left))
