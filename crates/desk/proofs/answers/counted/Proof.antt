@@ -1,4 +1,5 @@
-use mathlib.Core.Path.{_≡_, sym, ap, _∙_}
+-- `desk::answers::counted`: each request's entry, its answer in the one form.
+use mathlib.Core.Path.{ap, _∙_}
 use mir.Facts.{toZ-ofZ}
 use mir.Syntax.{w32, w64}
 use mir.Val.{SFits}
@@ -7,87 +8,6 @@ use Rattle.desk.specs.Answers.{line, timeLine, durationLine, orderText}
 use borrow.Author.Needs.{needs}
 use Rattle.desk.proofs.answers.counted.Statement.{statement}
 use Rattle.desk.proofs.answers.counted.Tie as tie
-
-enum-known-count : tie.Need-enum-known-count
-enum-known-count c = search needs
-
-new-requires : tie.Need-new-requires
-new-requires c κs = search needs
-
-time-requires : tie.Need-time-requires
-time-requires c κs = search needs
-
-enum-known-count-2 : tie.Need-enum-known-count-2
-enum-known-count-2 c = search needs
-
-try-from-date-time-requires : tie.Need-try-from-date-time-requires
-try-from-date-time-requires c κs = search needs
-
-date-time-requires : tie.Need-date-time-requires
-date-time-requires c κs = search needs
-
-enum-known-count-3 : tie.Need-enum-known-count-3
-enum-known-count-3 c = search needs
-
-try-from-unix-timestamp-requires : tie.Need-try-from-unix-timestamp-requires
-try-from-unix-timestamp-requires c κs = search needs
-
-time-requires-2 : tie.Need-time-requires-2
-time-requires-2 c κs = search needs
-
-enum-known-count-4 : tie.Need-enum-known-count-4
-enum-known-count-4 c = search needs
-
-as-unix-secs-requires : tie.Need-as-unix-secs-requires
-as-unix-secs-requires c κs = search needs
-
-unix-requires : tie.Need-unix-requires
-unix-requires c κs = search needs
-
-enum-known-count-5 : tie.Need-enum-known-count-5
-enum-known-count-5 c = search needs
-
-to-tai-time-requires : tie.Need-to-tai-time-requires
-to-tai-time-requires c κs = search needs
-
-time-requires-3 : tie.Need-time-requires-3
-time-requires-3 c κs = search needs
-
-enum-known-count-6 : tie.Need-enum-known-count-6
-enum-known-count-6 c = search needs
-
-checked-add-requires : tie.Need-checked-add-requires
-checked-add-requires c κs = search needs
-
-time-requires-4 : tie.Need-time-requires-4
-time-requires-4 c κs = search needs
-
-enum-known-count-7 : tie.Need-enum-known-count-7
-enum-known-count-7 c = search needs
-
-checked-sub-requires : tie.Need-checked-sub-requires
-checked-sub-requires c κs = search needs
-
-time-requires-5 : tie.Need-time-requires-5
-time-requires-5 c κs = search needs
-
-enum-known-count-8 : tie.Need-enum-known-count-8
-enum-known-count-8 c = search needs
-
-checked-duration-since-requires : tie.Need-checked-duration-since-requires
-checked-duration-since-requires c κs = search needs
-
-duration-requires : tie.Need-duration-requires
-duration-requires c κs = search needs
-
-enum-known-count-9 : tie.Need-enum-known-count-9
-enum-known-count-9 c = search needs
-
-cmp-requires : tie.Need-cmp-requires
-cmp-requires c κs = search needs
-
-ordering-requires : tie.Need-ordering-requires
-ordering-requires c κs = search needs
 
 returns : tie.Need-returns
 returns c = let f0 : SFits w64 (c .before .before .before .count .given .0 .0) = search needs in rw (c .before .before .before .count .given .1) (c .time .ensures ∙ ap timeLine (simp toZ-ofZ at (c .before .new .ensures)))
@@ -120,33 +40,33 @@ pub counted-spec : {M : Type 1} → statement M
 counted-spec =
     tie.close
     (tie.spec
-    enum-known-count
-    new-requires
-    time-requires
-    enum-known-count-2
-    try-from-date-time-requires
-    date-time-requires
-    enum-known-count-3
-    try-from-unix-timestamp-requires
-    time-requires-2
-    enum-known-count-4
-    as-unix-secs-requires
-    unix-requires
-    enum-known-count-5
-    to-tai-time-requires
-    time-requires-3
-    enum-known-count-6
-    checked-add-requires
-    time-requires-4
-    enum-known-count-7
-    checked-sub-requires
-    time-requires-5
-    enum-known-count-8
-    checked-duration-since-requires
-    duration-requires
-    enum-known-count-9
-    cmp-requires
-    ordering-requires
+    (λ c. search needs)
+    (λ c κs. search needs)
+    (λ c κs. search needs)
+    (λ c. search needs)
+    (λ c κs. search needs)
+    (λ c κs. search needs)
+    (λ c. search needs)
+    (λ c κs. search needs)
+    (λ c κs. search needs)
+    (λ c. search needs)
+    (λ c κs. search needs)
+    (λ c κs. search needs)
+    (λ c. search needs)
+    (λ c κs. search needs)
+    (λ c κs. search needs)
+    (λ c. search needs)
+    (λ c κs. search needs)
+    (λ c κs. search needs)
+    (λ c. search needs)
+    (λ c κs. search needs)
+    (λ c κs. search needs)
+    (λ c. search needs)
+    (λ c κs. search needs)
+    (λ c κs. search needs)
+    (λ c. search needs)
+    (λ c κs. search needs)
+    (λ c κs. search needs)
     returns
     returns-2
     returns-3

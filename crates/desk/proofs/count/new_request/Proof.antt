@@ -1,23 +1,12 @@
-use mathlib.Core.Path.{_≡_, sym, ap, _∙_}
-use native.Mathlib.Omega.{arith}
-use lib.ListN.{length, length-drop}
+-- `desk::count::new_request`.
 use mir.Facts.{toZ-ofZ}
-use mir.Syntax.{w32, w64}
-use mir.Val.{SFits, toZ, ofZ}
-use borrow.Author.Tests.{eq-eqb, ne-eqb, not-true, not-false}
+use mir.Syntax.{w64}
+use mir.Val.{SFits}
+use borrow.Author.Tests.{eq-eqb, ne-eqb}
 use Rattle.desk.specs.Requests.{newRequest}
 use borrow.Author.Needs.{needs}
 use Rattle.desk.proofs.count.new_request.Statement.{statement}
 use Rattle.desk.proofs.count.new_request.Tie as tie
-
-stamp-field-requires : tie.Need-stamp-field-requires
-stamp-field-requires c κs = search needs
-
-enum-known-secs : tie.Need-enum-known-secs
-enum-known-secs c = search needs
-
-enum-told : tie.Need-enum-told
-enum-told c = search needs
 
 returns : tie.Need-returns
 unfolding newRequest
@@ -33,4 +22,4 @@ returns-3 c = let f0 : SFits w64 (c .before .before .secs .given .0 .0) = search
 
 pub new-request-spec : {M : Type 1} → statement M
 new-request-spec =
-    tie.close (tie.spec stamp-field-requires enum-known-secs enum-told returns returns-2 returns-3)
+    tie.close (tie.spec (λ c κs. search needs) (λ c. search needs) (λ c. search needs) returns returns-2 returns-3)

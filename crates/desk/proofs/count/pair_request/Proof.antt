@@ -1,39 +1,16 @@
-use mathlib.Core.Path.{_≡_, sym, ap, _∙_}
-use native.Mathlib.Omega.{arith}
-use lib.ListN.{length, length-drop}
+-- `desk::count::pair_request`.
 use mir.Facts.{toZ-ofZ}
-use mir.Syntax.{w32, w64}
-use mir.Val.{SFits, toZ, ofZ}
-use borrow.Author.Tests.{eq-eqb, ne-eqb, not-true, not-false}
+use mir.Syntax.{w64}
+use mir.Val.{SFits}
+use borrow.Author.Tests.{eq-eqb, ne-eqb}
 use Rattle.desk.specs.Requests.{pairRequest}
 use borrow.Author.Needs.{needs}
 use Rattle.desk.proofs.count.pair_request.Statement.{statement}
 use Rattle.desk.proofs.count.pair_request.Tie as tie
 
-stamp-field-requires : tie.Need-stamp-field-requires
-stamp-field-requires c κs = search needs
-
-enum-known-secs : tie.Need-enum-known-secs
-enum-known-secs c = search needs
-
-enum-told : tie.Need-enum-told
-enum-told c = search needs
-
 returns : tie.Need-returns
 unfolding pairRequest
 returns c = rw (← c .before .before .stamp-field .ensures, c .enum-told .given .1)
-
-skip-requires : tie.Need-skip-requires
-skip-requires c κs = search needs
-
-stamp-field-requires-2 : tie.Need-stamp-field-requires-2
-stamp-field-requires-2 c κs = search needs
-
-enum-known-other-secs : tie.Need-enum-known-other-secs
-enum-known-other-secs c = search needs
-
-enum-told-2 : tie.Need-enum-told-2
-enum-told-2 c = search needs
 
 returns-2 : tie.Need-returns-2
 unfolding pairRequest
@@ -55,14 +32,14 @@ pub pair-request-spec : {M : Type 1} → statement M
 pair-request-spec =
     tie.close
     (tie.spec
-    stamp-field-requires
-    enum-known-secs
-    enum-told
+    (λ c κs. search needs)
+    (λ c. search needs)
+    (λ c. search needs)
     returns
-    skip-requires
-    stamp-field-requires-2
-    enum-known-other-secs
-    enum-told-2
+    (λ c κs. search needs)
+    (λ c κs. search needs)
+    (λ c. search needs)
+    (λ c. search needs)
     returns-2
     returns-3
     returns-4

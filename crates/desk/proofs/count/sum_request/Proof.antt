@@ -1,56 +1,23 @@
-use mathlib.Core.Path.{_≡_, sym, ap, _∙_}
+-- `desk::count::sum_request`.
+use mathlib.Core.Path.{sym, _∙_}
 use native.Mathlib.Omega.{arith}
-use lib.ListN.{length, length-drop}
 use mir.Facts.{toZ-ofZ}
-use mir.Syntax.{w32, w64}
-use mir.Val.{SFits, toZ, ofZ}
-use borrow.Author.Tests.{eq-eqb, ne-eqb, not-true, not-false}
+use mir.Syntax.{w64}
+use mir.Val.{SFits}
+use borrow.Author.Tests.{eq-eqb, ne-eqb}
 use Rattle.desk.specs.Requests.{sumRequest}
 use Rattle.desk.proofs.Rests.{natural-within}
 use borrow.Author.Needs.{needs}
 use Rattle.desk.proofs.count.sum_request.Statement.{statement}
 use Rattle.desk.proofs.count.sum_request.Tie as tie
 
-stamp-field-requires : tie.Need-stamp-field-requires
-stamp-field-requires c κs = search needs
-
-enum-known-secs : tie.Need-enum-known-secs
-enum-known-secs c = search needs
-
-enum-told : tie.Need-enum-told
-enum-told c = search needs
-
 returns : tie.Need-returns
 unfolding sumRequest
 returns c = rw (← c .before .before .stamp-field .ensures, c .enum-told .given .1)
 
-skip-requires : tie.Need-skip-requires
-skip-requires c κs = search needs
-
-natural-field-requires : tie.Need-natural-field-requires
-natural-field-requires c κs = search needs
-
-enum-known-dsecs : tie.Need-enum-known-dsecs
-enum-known-dsecs c = search needs
-
-enum-told-2 : tie.Need-enum-told-2
-enum-told-2 c = search needs
-
 returns-2 : tie.Need-returns-2
 unfolding sumRequest
 returns-2 c = rw (← c .before .before .before .before .before .before .before .stamp-field .ensures, c .before .before .before .before .before .secs .given .1, ← c .before .before .before .skip .ensures, ← c .before .before .natural-field .ensures, c .enum-told2 .given .1)
-
-skip-requires-2 : tie.Need-skip-requires-2
-skip-requires-2 c κs = search needs
-
-natural-field-requires-2 : tie.Need-natural-field-requires-2
-natural-field-requires-2 c κs = search needs
-
-enum-known-dnanos : tie.Need-enum-known-dnanos
-enum-known-dnanos c = search needs
-
-enum-told-3 : tie.Need-enum-told-3
-enum-told-3 c = search needs
 
 returns-3 : tie.Need-returns-3
 unfolding sumRequest
@@ -75,19 +42,19 @@ pub sum-request-spec : {M : Type 1} → statement M
 sum-request-spec =
     tie.close
     (tie.spec
-    stamp-field-requires
-    enum-known-secs
-    enum-told
+    (λ c κs. search needs)
+    (λ c. search needs)
+    (λ c. search needs)
     returns
-    skip-requires
-    natural-field-requires
-    enum-known-dsecs
-    enum-told-2
+    (λ c κs. search needs)
+    (λ c κs. search needs)
+    (λ c. search needs)
+    (λ c. search needs)
     returns-2
-    skip-requires-2
-    natural-field-requires-2
-    enum-known-dnanos
-    enum-told-3
+    (λ c κs. search needs)
+    (λ c κs. search needs)
+    (λ c. search needs)
+    (λ c. search needs)
     returns-3
     returns-4
     cast-dnanos

@@ -1,72 +1,24 @@
-use mathlib.Core.Path.{_≡_, sym, ap, _∙_}
+-- `desk::count::time_fields`.
+use mathlib.Core.Path.{sym, ap, _∙_}
 use native.Mathlib.Omega.{arith}
 use lib.ListN.{length, length-drop}
-use mir.Facts.{toZ-ofZ}
-use mir.Syntax.{w32, w64}
-use mir.Val.{SFits, toZ, ofZ}
-use borrow.Author.Tests.{eq-eqb, ne-eqb, not-true, not-false}
 use Rattle.desk.specs.Requests.{timeFields}
 use Rattle.desk.proofs.Rests.{natural-within}
 use borrow.Author.Needs.{needs}
 use Rattle.desk.proofs.count.time_fields.Statement.{statement}
 use Rattle.desk.proofs.count.time_fields.Tie as tie
 
-natural-field-requires : tie.Need-natural-field-requires
-natural-field-requires c κs = search needs
-
-enum-known-hour : tie.Need-enum-known-hour
-enum-known-hour c = search needs
-
-enum-told : tie.Need-enum-told
-enum-told c = search needs
-
 returns : tie.Need-returns
 unfolding timeFields
 returns c = rw (← c .before .before .natural-field .ensures, c .enum-told .given .1)
-
-skip-requires : tie.Need-skip-requires
-skip-requires c κs = search needs
-
-natural-field-requires-2 : tie.Need-natural-field-requires-2
-natural-field-requires-2 c κs = search needs
-
-enum-known-min : tie.Need-enum-known-min
-enum-known-min c = search needs
-
-enum-told-2 : tie.Need-enum-told-2
-enum-told-2 c = search needs
 
 returns-2 : tie.Need-returns-2
 unfolding timeFields
 returns-2 c = rw (← c .before .before .before .before .before .before .before .natural-field .ensures, c .before .before .before .before .before .hour .given .1, ← c .before .before .before .skip .ensures, ← c .before .before .natural-field2 .ensures, c .enum-told2 .given .1)
 
-skip-requires-2 : tie.Need-skip-requires-2
-skip-requires-2 c κs = search needs
-
-natural-field-requires-3 : tie.Need-natural-field-requires-3
-natural-field-requires-3 c κs = search needs
-
-enum-known-sec : tie.Need-enum-known-sec
-enum-known-sec c = search needs
-
-enum-told-3 : tie.Need-enum-told-3
-enum-told-3 c = search needs
-
 returns-3 : tie.Need-returns-3
 unfolding timeFields
 returns-3 c = rw (← c .before .before .before .before .before .before .before .before .before .before .before .before .natural-field .ensures, c .before .before .before .before .before .before .before .before .before .before .hour .given .1, ← c .before .before .before .before .before .before .before .before .skip .ensures, ← c .before .before .before .before .before .before .before .natural-field2 .ensures, c .before .before .before .before .before .min .given .1, ← c .before .before .before .skip2 .ensures, ← c .before .before .natural-field3 .ensures, c .enum-told3 .given .1)
-
-skip-requires-3 : tie.Need-skip-requires-3
-skip-requires-3 c κs = search needs
-
-natural-field-requires-4 : tie.Need-natural-field-requires-4
-natural-field-requires-4 c κs = search needs
-
-enum-known-nano : tie.Need-enum-known-nano
-enum-known-nano c = search needs
-
-enum-told-4 : tie.Need-enum-told-4
-enum-told-4 c = search needs
 
 returns-4 : tie.Need-returns-4
 unfolding timeFields
@@ -101,24 +53,24 @@ pub time-fields-spec : {M : Type 1} → statement M
 time-fields-spec =
     tie.close
     (tie.spec
-    natural-field-requires
-    enum-known-hour
-    enum-told
+    (λ c κs. search needs)
+    (λ c. search needs)
+    (λ c. search needs)
     returns
-    skip-requires
-    natural-field-requires-2
-    enum-known-min
-    enum-told-2
+    (λ c κs. search needs)
+    (λ c κs. search needs)
+    (λ c. search needs)
+    (λ c. search needs)
     returns-2
-    skip-requires-2
-    natural-field-requires-3
-    enum-known-sec
-    enum-told-3
+    (λ c κs. search needs)
+    (λ c κs. search needs)
+    (λ c. search needs)
+    (λ c. search needs)
     returns-3
-    skip-requires-3
-    natural-field-requires-4
-    enum-known-nano
-    enum-told-4
+    (λ c κs. search needs)
+    (λ c κs. search needs)
+    (λ c. search needs)
+    (λ c. search needs)
     returns-4
     cast-t17
     cast-t18

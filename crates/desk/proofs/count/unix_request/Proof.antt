@@ -1,55 +1,20 @@
-use mathlib.Core.Path.{_≡_, sym, ap, _∙_}
-use native.Mathlib.Omega.{arith}
-use lib.ListN.{length, length-drop}
+-- `desk::count::unix_request`.
 use mir.Facts.{toZ-ofZ}
-use mir.Syntax.{w32, w64}
-use mir.Val.{SFits, toZ, ofZ}
-use borrow.Author.Tests.{eq-eqb, ne-eqb, not-true, not-false}
+use mir.Syntax.{w64}
+use mir.Val.{SFits}
+use borrow.Author.Tests.{eq-eqb, ne-eqb}
 use Rattle.desk.specs.Requests.{unixRequest}
 use borrow.Author.Needs.{needs}
 use Rattle.desk.proofs.count.unix_request.Statement.{statement}
 use Rattle.desk.proofs.count.unix_request.Tie as tie
 
-epoch-field-requires : tie.Need-epoch-field-requires
-epoch-field-requires c κs = search needs
-
-enum-known-epoch : tie.Need-enum-known-epoch
-enum-known-epoch c = search needs
-
-enum-told : tie.Need-enum-told
-enum-told c = search needs
-
 returns : tie.Need-returns
 unfolding unixRequest
 returns c = rw (← c .before .before .epoch-field .ensures, c .enum-told .given .1)
 
-skip-requires : tie.Need-skip-requires
-skip-requires c κs = search needs
-
-stamp-field-requires : tie.Need-stamp-field-requires
-stamp-field-requires c κs = search needs
-
-enum-known-secs : tie.Need-enum-known-secs
-enum-known-secs c = search needs
-
-enum-told-2 : tie.Need-enum-told-2
-enum-told-2 c = search needs
-
 returns-2 : tie.Need-returns-2
 unfolding unixRequest
 returns-2 c = rw (← c .before .before .before .before .before .before .before .epoch-field .ensures, c .before .before .before .before .before .epoch .given .1, ← c .before .before .before .skip .ensures, ← c .before .before .stamp-field .ensures, c .enum-told2 .given .1)
-
-skip-requires-2 : tie.Need-skip-requires-2
-skip-requires-2 c κs = search needs
-
-whole-field-requires : tie.Need-whole-field-requires
-whole-field-requires c κs = search needs
-
-enum-known-leap : tie.Need-enum-known-leap
-enum-known-leap c = search needs
-
-enum-told-3 : tie.Need-enum-told-3
-enum-told-3 c = search needs
 
 returns-3 : tie.Need-returns-3
 unfolding unixRequest
@@ -71,19 +36,19 @@ pub unix-request-spec : {M : Type 1} → statement M
 unix-request-spec =
     tie.close
     (tie.spec
-    epoch-field-requires
-    enum-known-epoch
-    enum-told
+    (λ c κs. search needs)
+    (λ c. search needs)
+    (λ c. search needs)
     returns
-    skip-requires
-    stamp-field-requires
-    enum-known-secs
-    enum-told-2
+    (λ c κs. search needs)
+    (λ c κs. search needs)
+    (λ c. search needs)
+    (λ c. search needs)
     returns-2
-    skip-requires-2
-    whole-field-requires
-    enum-known-leap
-    enum-told-3
+    (λ c κs. search needs)
+    (λ c κs. search needs)
+    (λ c. search needs)
+    (λ c. search needs)
     returns-3
     returns-4
     returns-5

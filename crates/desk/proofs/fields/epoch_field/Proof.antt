@@ -1,28 +1,13 @@
+-- `desk::fields::epoch_field`.
 use mir.Val.{SFits}
 use Rattle.desk.specs.declared.fields.Whole.the-variants as Whole
-use mathlib.Core.Path.{sym, ap, _∙_}
-use native.Mathlib.Omega.{arith}
+use mathlib.Core.Path.{ap, _∙_}
 use mir.Facts.{toZ-ofZ}
 use mir.Syntax.{w64}
 use Rattle.desk.specs.Fields.{epochField}
 use borrow.Author.Needs.{needs}
 use Rattle.desk.proofs.fields.epoch_field.Statement.{statement}
 use Rattle.desk.proofs.fields.epoch_field.Tie as tie
-
-field-length-requires : tie.Need-field-length-requires
-field-length-requires c κs = search needs
-
-field-word-requires : tie.Need-field-word-requires
-field-word-requires c κs = search needs
-
-parse-epoch-requires : tie.Need-parse-epoch-requires
-parse-epoch-requires c κs = search needs
-
-enum-known-v : tie.Need-enum-known-v
-enum-known-v c = search needs
-
-enum-told : tie.Need-enum-told
-enum-told c = search needs
 
 returns : tie.Need-returns
 unfolding epochField
@@ -37,10 +22,10 @@ pub epoch-field-spec : {M : Type 1} → statement M
 epoch-field-spec =
     tie.close
     (tie.spec
-    field-length-requires
-    field-word-requires
-    parse-epoch-requires
-    enum-known-v
-    enum-told
+    (λ c κs. search needs)
+    (λ c κs. search needs)
+    (λ c κs. search needs)
+    (λ c. search needs)
+    (λ c. search needs)
     returns
     returns-2)

@@ -1,20 +1,11 @@
+-- `desk::fields::field_length`.
 use mathlib.Core.Path.{sym, ap, _∙_}
-use Prim.Native.Nat.{_+_}
 use native.Mathlib.Omega.{arith}
 use lib.ListN.{length, length-drop}
 use Rattle.desk.proofs.Splits.{field-blank, field-none, blank-length}
 use borrow.Author.Needs.{needs}
 use Rattle.desk.proofs.fields.field_length.Statement.{statement}
 use Rattle.desk.proofs.fields.field_length.Tie as tie
-
-begins-with-requires : tie.Need-begins-with-requires
-begins-with-requires c κs = search needs
-
-skip-requires : tie.Need-skip-requires
-skip-requires c κs = search needs
-
-word-length-requires : tie.Need-word-length-requires
-word-length-requires c κs = search needs
 
 add-result : tie.Need-add-result
 add-result c = let h = c .word-length .ensures .1 in let k = simp length-drop at (ap length (c .before .skip .ensures)) in omega (arith, blank-length _ (sym (c .before .before .before .begins-with .ensures) ∙ c .before .before .if1 .taken))
@@ -30,4 +21,4 @@ returns-2 c = (field-none _ (sym (c .before .begins-with .ensures) ∙ c .if1 .l
 pub field-length-spec : {M : Type 1} → statement M
 field-length-spec =
     tie.close
-    (tie.spec begins-with-requires skip-requires word-length-requires add-result returns returns-2)
+    (tie.spec (λ c κs. search needs) (λ c κs. search needs) (λ c κs. search needs) add-result returns returns-2)

@@ -1,26 +1,8 @@
-use mathlib.Core.Path.{sym, ap, _∙_}
-use native.Mathlib.Omega.{arith}
-use mir.Facts.{toZ-ofZ}
-use mir.Syntax.{w64}
+-- `desk::fields::precision_field`.
 use Rattle.desk.specs.Fields.{precisionField}
 use borrow.Author.Needs.{needs}
 use Rattle.desk.proofs.fields.precision_field.Statement.{statement}
 use Rattle.desk.proofs.fields.precision_field.Tie as tie
-
-field-length-requires : tie.Need-field-length-requires
-field-length-requires c κs = search needs
-
-field-word-requires : tie.Need-field-word-requires
-field-word-requires c κs = search needs
-
-parse-precision-requires : tie.Need-parse-precision-requires
-parse-precision-requires c κs = search needs
-
-enum-known-v : tie.Need-enum-known-v
-enum-known-v c = search needs
-
-enum-told : tie.Need-enum-told
-enum-told c = search needs
 
 returns : tie.Need-returns
 unfolding precisionField
@@ -34,10 +16,10 @@ pub precision-field-spec : {M : Type 1} → statement M
 precision-field-spec =
     tie.close
     (tie.spec
-    field-length-requires
-    field-word-requires
-    parse-precision-requires
-    enum-known-v
-    enum-told
+    (λ c κs. search needs)
+    (λ c κs. search needs)
+    (λ c κs. search needs)
+    (λ c. search needs)
+    (λ c. search needs)
     returns
     returns-2)

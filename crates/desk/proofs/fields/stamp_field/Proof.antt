@@ -1,4 +1,5 @@
-use mathlib.Core.Path.{_≡_, sym, ap, _∙_}
+-- `desk::fields::stamp_field`.
+use mathlib.Core.Path.{sym, ap, _∙_}
 use Prim.Native.Nat.{_+_}
 use native.Mathlib.Omega.{arith}
 use lib.ListN.{length, length-drop}
@@ -12,30 +13,9 @@ use borrow.Author.Needs.{needs}
 use Rattle.desk.proofs.fields.stamp_field.Statement.{statement}
 use Rattle.desk.proofs.fields.stamp_field.Tie as tie
 
-whole-field-requires : tie.Need-whole-field-requires
-whole-field-requires c κs = search needs
-
-enum-known-secs : tie.Need-enum-known-secs
-enum-known-secs c = search needs
-
-enum-told : tie.Need-enum-told
-enum-told c = search needs
-
 returns : tie.Need-returns
 unfolding stampField
 returns c = rw (← c .before .before .whole-field .ensures, c .enum-told .given .1)
-
-skip-requires : tie.Need-skip-requires
-skip-requires c κs = search needs
-
-natural-field-requires : tie.Need-natural-field-requires
-natural-field-requires c κs = search needs
-
-enum-known-nanos : tie.Need-enum-known-nanos
-enum-known-nanos c = search needs
-
-enum-told-2 : tie.Need-enum-told-2
-enum-told-2 c = search needs
 
 returns-2 : tie.Need-returns-2
 unfolding stampField
@@ -56,14 +36,14 @@ pub stamp-field-spec : {M : Type 1} → statement M
 stamp-field-spec =
     tie.close
     (tie.spec
-    whole-field-requires
-    enum-known-secs
-    enum-told
+    (λ c κs. search needs)
+    (λ c. search needs)
+    (λ c. search needs)
     returns
-    skip-requires
-    natural-field-requires
-    enum-known-nanos
-    enum-told-2
+    (λ c κs. search needs)
+    (λ c κs. search needs)
+    (λ c. search needs)
+    (λ c. search needs)
     returns-2
     cast-t9
     add-t10

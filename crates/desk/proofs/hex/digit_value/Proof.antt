@@ -1,3 +1,4 @@
+-- `desk::hex::digit_value`: each test is one of the definition's.
 use native.Mathlib.Omega.{arith}
 use borrow.Author.Tests.{lt-leb, le-leb}
 use Rattle.desk.specs.Hex.{digitValue}
@@ -17,9 +18,6 @@ returns-3 : tie.Need-returns-3
 unfolding digitValue
 returns-3 c = rw (le-leb 48 _ (c .before .before .if1 .left), lt-leb _ 57 (c .before .if2 .left), lt-leb 97 _ (c .if3 .taken))
 
-sub-result : tie.Need-sub-result
-sub-result c = search needs
-
 returns-4 : tie.Need-returns-4
 unfolding digitValue
 returns-4 c = rw (le-leb 48 _ (c .before .before .before .if1 .left), lt-leb _ 57 (c .before .before .if2 .left), le-leb 97 _ (c .before .if3 .left), le-leb _ 102 (c .if4 .taken))
@@ -29,4 +27,4 @@ unfolding digitValue
 returns-5 c = rw (le-leb 48 _ (c .before .before .before .if1 .left), lt-leb _ 57 (c .before .before .if2 .left), le-leb 97 _ (c .before .if3 .left), lt-leb _ 102 (c .if4 .left))
 
 pub digit-value-spec : {M : Type 1} → statement M
-digit-value-spec = tie.close (tie.spec returns returns-2 returns-3 sub-result returns-4 returns-5)
+digit-value-spec = tie.close (tie.spec returns returns-2 returns-3 (λ c. search needs) returns-4 returns-5)

@@ -1,6 +1,7 @@
-use mathlib.Core.Path.{_≡_, sym, ap, _∙_, refl}
-use mathlib.Core.Bool.{true, false}
-use mathlib.Core.List.{[], _∷_, _++_, append-nil, append-assoc}
+-- `desk::hex::unhex`. The invariant: what is left of the digits is paired as the whole is, and the bytes of those before stand in front; the measure: the digits left.
+use mathlib.Core.Path.{_≡_, sym, _∙_, refl}
+use mathlib.Core.Bool.{false}
+use mathlib.Core.List.{_++_, append-nil, append-assoc}
 use Prim.Native.Nat.{_≤_, _<_, _+_, _-_, _*_}
 use native.Mathlib.Omega.{arith}
 use native.Mathlib.Numerals.{add-one}
@@ -8,9 +9,8 @@ use lib.ListN.{length, take, drop, length-set, length-take}
 use lib.Seq.{take-suc-set}
 use Rattle.desk.specs.Words.{bytes as bytesOf, alike}
 use Rattle.desk.specs.Hex.{inPairs, pairs}
-use Rattle.desk.proofs.Hexes.{hex-more, bad-high, bad-low, pairs-more, odd, even, none, empty, ill, well}
+use Rattle.desk.proofs.Hexes.{hex-more, bad-high, bad-low, pairs-more, odd, even, none, empty, ill, well, never}
 use borrow.Author.Needs.{needs}
-use Rattle.desk.proofs.Hexes.{never}
 use Rattle.desk.proofs.hex.unhex.Statement.{statement}
 use Rattle.desk.proofs.hex.unhex.Tie as tie
 
@@ -19,12 +19,6 @@ Inv-loop hex bytes₀ i₀ n₀ bytes i n = (i ≡ 2 * n) × (i ≤ length hex) 
 
 abbrev μ-loop : tie.MeasureT-loop
 μ-loop hex bytes₀ i₀ n₀ bytes i n = length hex - i
-
-slice-aggregate-same : tie.Need-slice-aggregate-same Inv-loop μ-loop
-slice-aggregate-same c = search needs
-
-same-requires : tie.Need-same-requires Inv-loop μ-loop
-same-requires c κs = search needs
 
 returns : tie.Need-returns Inv-loop μ-loop
 returns c = let e = none _ (sym (c .before .same .ensures) ∙ c .if1 .taken) in (e .0, λ h. rw (e .1))
@@ -41,17 +35,11 @@ add-loop c = omega arith
 shared-slice-read-digit-value : tie.Need-shared-slice-read-digit-value Inv-loop μ-loop
 shared-slice-read-digit-value c = omega arith
 
-digit-value-requires : tie.Need-digit-value-requires Inv-loop μ-loop
-digit-value-requires c κs = search needs
-
 add-digit-value : tie.Need-add-digit-value Inv-loop μ-loop
 add-digit-value c = omega arith
 
 shared-slice-read-digit-value-2 : tie.Need-shared-slice-read-digit-value-2 Inv-loop μ-loop
 shared-slice-read-digit-value-2 c = omega arith
-
-digit-value-requires-2 : tie.Need-digit-value-requires-2 Inv-loop μ-loop
-digit-value-requires-2 c κs = search needs
 
 same-length : tie.Need-same-length Inv-loop μ-loop
 same-length c = c .before .before .before .before .before .before .loop .inv .2
@@ -117,17 +105,17 @@ unhex-spec =
     (tie.spec
     Inv-loop
     μ-loop
-    slice-aggregate-same
-    same-requires
+    (λ c. search needs)
+    (λ c κs. search needs)
     returns
     returns-2
     loop-holds
     add-loop
     shared-slice-read-digit-value
-    digit-value-requires
+    (λ c κs. search needs)
     add-digit-value
     shared-slice-read-digit-value-2
-    digit-value-requires-2
+    (λ c κs. search needs)
     same-length
     returns-3
     same-length-2

@@ -1,192 +1,65 @@
-use Rattle.desk.proofs.Puts.{past}
+-- `desk::lines::put_name`: the number's row of `names`, or none.
+use Rattle.desk.proofs.Puts.{past, put-none}
 use Prim.Native.Nat.{_≤_}
 use mathlib.Core.List.{[]}
-use mathlib.Core.Path.{_≡_, sym, ap, _∙_, refl}
 use native.Mathlib.Omega.{arith}
-use Rattle.desk.proofs.Puts.{put-on, put-none, put-length}
 use Rattle.desk.specs.Texts.{names}
 use lib.ListN.{List·getD-eq-default}
 use borrow.Author.Needs.{needs}
 use Rattle.desk.proofs.lines.put_name.Statement.{statement}
 use Rattle.desk.proofs.lines.put_name.Tie as tie
 
-slice-aggregate-put : tie.Need-slice-aggregate-put
-slice-aggregate-put c = search needs
-
-put-requires : tie.Need-put-requires
-put-requires c κs = search needs
-
-slice-aggregate-put-2 : tie.Need-slice-aggregate-put-2
-slice-aggregate-put-2 c = search needs
-
-put-requires-2 : tie.Need-put-requires-2
-put-requires-2 c κs = search needs
-
-slice-aggregate-put-3 : tie.Need-slice-aggregate-put-3
-slice-aggregate-put-3 c = search needs
-
-put-requires-3 : tie.Need-put-requires-3
-put-requires-3 c κs = search needs
-
-slice-aggregate-put-4 : tie.Need-slice-aggregate-put-4
-slice-aggregate-put-4 c = search needs
-
-put-requires-4 : tie.Need-put-requires-4
-put-requires-4 c κs = search needs
-
-slice-aggregate-put-5 : tie.Need-slice-aggregate-put-5
-slice-aggregate-put-5 c = search needs
-
-put-requires-5 : tie.Need-put-requires-5
-put-requires-5 c κs = search needs
-
-slice-aggregate-put-6 : tie.Need-slice-aggregate-put-6
-slice-aggregate-put-6 c = search needs
-
-put-requires-6 : tie.Need-put-requires-6
-put-requires-6 c κs = search needs
-
-slice-aggregate-put-7 : tie.Need-slice-aggregate-put-7
-slice-aggregate-put-7 c = search needs
-
-put-requires-7 : tie.Need-put-requires-7
-put-requires-7 c κs = search needs
-
-slice-aggregate-put-8 : tie.Need-slice-aggregate-put-8
-slice-aggregate-put-8 c = search needs
-
-put-requires-8 : tie.Need-put-requires-8
-put-requires-8 c κs = search needs
-
-slice-aggregate-put-9 : tie.Need-slice-aggregate-put-9
-slice-aggregate-put-9 c = search needs
-
-put-requires-9 : tie.Need-put-requires-9
-put-requires-9 c κs = search needs
-
-slice-aggregate-put-10 : tie.Need-slice-aggregate-put-10
-slice-aggregate-put-10 c = search needs
-
-put-requires-10 : tie.Need-put-requires-10
-put-requires-10 c κs = search needs
-
-slice-aggregate-put-11 : tie.Need-slice-aggregate-put-11
-slice-aggregate-put-11 c = search needs
-
-put-requires-11 : tie.Need-put-requires-11
-put-requires-11 c κs = search needs
-
-slice-aggregate-put-12 : tie.Need-slice-aggregate-put-12
-slice-aggregate-put-12 c = search needs
-
-put-requires-12 : tie.Need-put-requires-12
-put-requires-12 c κs = search needs
-
-slice-aggregate-put-13 : tie.Need-slice-aggregate-put-13
-slice-aggregate-put-13 c = search needs
-
-put-requires-13 : tie.Need-put-requires-13
-put-requires-13 c κs = search needs
-
-slice-aggregate-put-14 : tie.Need-slice-aggregate-put-14
-slice-aggregate-put-14 c = search needs
-
-put-requires-14 : tie.Need-put-requires-14
-put-requires-14 c κs = search needs
-
-same-length : tie.Need-same-length
-same-length c = search needs
-
 returns : tie.Need-returns
 unfolding names
 returns c = rw (c .before .before .before .before .before .match .keys1) (c .before .before .put .ensures, omega (arith, c .before .before .put .ensures .place))
-
-same-length-2 : tie.Need-same-length-2
-same-length-2 c = search needs
 
 returns-2 : tie.Need-returns-2
 unfolding names
 returns-2 c = rw (c .before .before .before .before .before .match .keys2) (c .before .before .put2 .ensures, omega (arith, c .before .before .put2 .ensures .place))
 
-same-length-3 : tie.Need-same-length-3
-same-length-3 c = search needs
-
 returns-3 : tie.Need-returns-3
 unfolding names
 returns-3 c = rw (c .before .before .before .before .before .match .keys3) (c .before .before .put3 .ensures, omega (arith, c .before .before .put3 .ensures .place))
-
-same-length-4 : tie.Need-same-length-4
-same-length-4 c = search needs
 
 returns-4 : tie.Need-returns-4
 unfolding names
 returns-4 c = rw (c .before .before .before .before .before .match .keys4) (c .before .before .put4 .ensures, omega (arith, c .before .before .put4 .ensures .place))
 
-same-length-5 : tie.Need-same-length-5
-same-length-5 c = search needs
-
 returns-5 : tie.Need-returns-5
 unfolding names
 returns-5 c = rw (c .before .before .before .before .before .match .keys5) (c .before .before .put5 .ensures, omega (arith, c .before .before .put5 .ensures .place))
-
-same-length-6 : tie.Need-same-length-6
-same-length-6 c = search needs
 
 returns-6 : tie.Need-returns-6
 unfolding names
 returns-6 c = rw (c .before .before .before .before .before .match .keys6) (c .before .before .put6 .ensures, omega (arith, c .before .before .put6 .ensures .place))
 
-same-length-7 : tie.Need-same-length-7
-same-length-7 c = search needs
-
 returns-7 : tie.Need-returns-7
 unfolding names
 returns-7 c = rw (c .before .before .before .before .before .match .keys7) (c .before .before .put7 .ensures, omega (arith, c .before .before .put7 .ensures .place))
-
-same-length-8 : tie.Need-same-length-8
-same-length-8 c = search needs
 
 returns-8 : tie.Need-returns-8
 unfolding names
 returns-8 c = rw (c .before .before .before .before .before .match .keys8) (c .before .before .put8 .ensures, omega (arith, c .before .before .put8 .ensures .place))
 
-same-length-9 : tie.Need-same-length-9
-same-length-9 c = search needs
-
 returns-9 : tie.Need-returns-9
 unfolding names
 returns-9 c = rw (c .before .before .before .before .before .match .keys9) (c .before .before .put9 .ensures, omega (arith, c .before .before .put9 .ensures .place))
-
-same-length-10 : tie.Need-same-length-10
-same-length-10 c = search needs
 
 returns-10 : tie.Need-returns-10
 unfolding names
 returns-10 c = rw (c .before .before .before .before .before .match .keys10) (c .before .before .put10 .ensures, omega (arith, c .before .before .put10 .ensures .place))
 
-same-length-11 : tie.Need-same-length-11
-same-length-11 c = search needs
-
 returns-11 : tie.Need-returns-11
 unfolding names
 returns-11 c = rw (c .before .before .before .before .before .match .keys11) (c .before .before .put11 .ensures, omega (arith, c .before .before .put11 .ensures .place))
-
-same-length-12 : tie.Need-same-length-12
-same-length-12 c = search needs
 
 returns-12 : tie.Need-returns-12
 unfolding names
 returns-12 c = rw (c .before .before .before .before .before .match .keys12) (c .before .before .put12 .ensures, omega (arith, c .before .before .put12 .ensures .place))
 
-same-length-13 : tie.Need-same-length-13
-same-length-13 c = search needs
-
 returns-13 : tie.Need-returns-13
 unfolding names
 returns-13 c = rw (c .before .before .before .before .before .match .keys13) (c .before .before .put13 .ensures, omega (arith, c .before .before .put13 .ensures .place))
-
-same-length-14 : tie.Need-same-length-14
-same-length-14 c = search needs
 
 returns-14 : tie.Need-returns-14
 unfolding names
@@ -202,60 +75,60 @@ pub put-name-spec : {M : Type 1} → statement M
 put-name-spec =
     tie.close
     (tie.spec
-    slice-aggregate-put
-    put-requires
-    slice-aggregate-put-2
-    put-requires-2
-    slice-aggregate-put-3
-    put-requires-3
-    slice-aggregate-put-4
-    put-requires-4
-    slice-aggregate-put-5
-    put-requires-5
-    slice-aggregate-put-6
-    put-requires-6
-    slice-aggregate-put-7
-    put-requires-7
-    slice-aggregate-put-8
-    put-requires-8
-    slice-aggregate-put-9
-    put-requires-9
-    slice-aggregate-put-10
-    put-requires-10
-    slice-aggregate-put-11
-    put-requires-11
-    slice-aggregate-put-12
-    put-requires-12
-    slice-aggregate-put-13
-    put-requires-13
-    slice-aggregate-put-14
-    put-requires-14
-    same-length
+    (λ c. search needs)
+    (λ c κs. search needs)
+    (λ c. search needs)
+    (λ c κs. search needs)
+    (λ c. search needs)
+    (λ c κs. search needs)
+    (λ c. search needs)
+    (λ c κs. search needs)
+    (λ c. search needs)
+    (λ c κs. search needs)
+    (λ c. search needs)
+    (λ c κs. search needs)
+    (λ c. search needs)
+    (λ c κs. search needs)
+    (λ c. search needs)
+    (λ c κs. search needs)
+    (λ c. search needs)
+    (λ c κs. search needs)
+    (λ c. search needs)
+    (λ c κs. search needs)
+    (λ c. search needs)
+    (λ c κs. search needs)
+    (λ c. search needs)
+    (λ c κs. search needs)
+    (λ c. search needs)
+    (λ c κs. search needs)
+    (λ c. search needs)
+    (λ c κs. search needs)
+    (λ c. search needs)
     returns
-    same-length-2
+    (λ c. search needs)
     returns-2
-    same-length-3
+    (λ c. search needs)
     returns-3
-    same-length-4
+    (λ c. search needs)
     returns-4
-    same-length-5
+    (λ c. search needs)
     returns-5
-    same-length-6
+    (λ c. search needs)
     returns-6
-    same-length-7
+    (λ c. search needs)
     returns-7
-    same-length-8
+    (λ c. search needs)
     returns-8
-    same-length-9
+    (λ c. search needs)
     returns-9
-    same-length-10
+    (λ c. search needs)
     returns-10
-    same-length-11
+    (λ c. search needs)
     returns-11
-    same-length-12
+    (λ c. search needs)
     returns-12
-    same-length-13
+    (λ c. search needs)
     returns-13
-    same-length-14
+    (λ c. search needs)
     returns-14
     returns-15)

@@ -1,71 +1,32 @@
-use mathlib.Core.Path.{sym, _∙_}
+-- `desk::numbers::parse_epoch`: name after name, then a number.
 use Rattle.desk.specs.Numbers.{epoch}
 use borrow.Author.Needs.{needs}
 use Rattle.desk.proofs.numbers.parse_epoch.Statement.{statement}
 use Rattle.desk.proofs.numbers.parse_epoch.Tie as tie
 
-slice-aggregate-same : tie.Need-slice-aggregate-same
-slice-aggregate-same c = search needs
-
-same-requires : tie.Need-same-requires
-same-requires c κs = search needs
-
 returns : tie.Need-returns
 unfolding epoch
 returns c = rw (← c .before .before .same .ensures, c .before .if1 .taken)
-
-slice-aggregate-same-2 : tie.Need-slice-aggregate-same-2
-slice-aggregate-same-2 c = search needs
-
-same-requires-2 : tie.Need-same-requires-2
-same-requires-2 c κs = search needs
 
 returns-2 : tie.Need-returns-2
 unfolding epoch
 returns-2 c = rw (← c .before .before .before .before .before .same .ensures, c .before .before .before .before .if1 .left, ← c .before .before .same2 .ensures, c .before .if2 .taken)
 
-slice-aggregate-same-3 : tie.Need-slice-aggregate-same-3
-slice-aggregate-same-3 c = search needs
-
-same-requires-3 : tie.Need-same-requires-3
-same-requires-3 c κs = search needs
-
 returns-3 : tie.Need-returns-3
 unfolding epoch
 returns-3 c = rw (← c .before .before .before .before .before .before .before .before .same .ensures, c .before .before .before .before .before .before .before .if1 .left, ← c .before .before .before .before .before .same2 .ensures, c .before .before .before .before .if2 .left, ← c .before .before .same3 .ensures, c .before .if3 .taken)
-
-slice-aggregate-same-4 : tie.Need-slice-aggregate-same-4
-slice-aggregate-same-4 c = search needs
-
-same-requires-4 : tie.Need-same-requires-4
-same-requires-4 c κs = search needs
 
 returns-4 : tie.Need-returns-4
 unfolding epoch
 returns-4 c = rw (← c .before .before .before .before .before .before .before .before .before .before .before .same .ensures, c .before .before .before .before .before .before .before .before .before .before .if1 .left, ← c .before .before .before .before .before .before .before .before .same2 .ensures, c .before .before .before .before .before .before .before .if2 .left, ← c .before .before .before .before .before .same3 .ensures, c .before .before .before .before .if3 .left, ← c .before .before .same4 .ensures, c .before .if4 .taken)
 
-slice-aggregate-same-5 : tie.Need-slice-aggregate-same-5
-slice-aggregate-same-5 c = search needs
-
-same-requires-5 : tie.Need-same-requires-5
-same-requires-5 c κs = search needs
-
 returns-5 : tie.Need-returns-5
 unfolding epoch
 returns-5 c = rw (← c .before .before .before .before .before .before .before .before .before .before .before .before .before .before .same .ensures, c .before .before .before .before .before .before .before .before .before .before .before .before .before .if1 .left, ← c .before .before .before .before .before .before .before .before .before .before .before .same2 .ensures, c .before .before .before .before .before .before .before .before .before .before .if2 .left, ← c .before .before .before .before .before .before .before .before .same3 .ensures, c .before .before .before .before .before .before .before .if3 .left, ← c .before .before .before .before .before .same4 .ensures, c .before .before .before .before .if4 .left, ← c .before .before .same5 .ensures, c .before .if5 .taken)
 
-slice-aggregate-same-6 : tie.Need-slice-aggregate-same-6
-slice-aggregate-same-6 c = search needs
-
-same-requires-6 : tie.Need-same-requires-6
-same-requires-6 c κs = search needs
-
 returns-6 : tie.Need-returns-6
 unfolding epoch
 returns-6 c = rw (← c .before .before .before .before .before .before .before .before .before .before .before .before .before .before .before .before .before .same .ensures, c .before .before .before .before .before .before .before .before .before .before .before .before .before .before .before .before .if1 .left, ← c .before .before .before .before .before .before .before .before .before .before .before .before .before .before .same2 .ensures, c .before .before .before .before .before .before .before .before .before .before .before .before .before .if2 .left, ← c .before .before .before .before .before .before .before .before .before .before .before .same3 .ensures, c .before .before .before .before .before .before .before .before .before .before .if3 .left, ← c .before .before .before .before .before .before .before .before .same4 .ensures, c .before .before .before .before .before .before .before .if4 .left, ← c .before .before .before .before .before .same5 .ensures, c .before .before .before .before .if5 .left, ← c .before .before .same6 .ensures, c .before .if6 .taken)
-
-parse-signed-requires : tie.Need-parse-signed-requires
-parse-signed-requires c κs = search needs
 
 returns-7 : tie.Need-returns-7
 unfolding epoch
@@ -75,23 +36,23 @@ pub parse-epoch-spec : {M : Type 1} → statement M
 parse-epoch-spec =
     tie.close
     (tie.spec
-    slice-aggregate-same
-    same-requires
+    (λ c. search needs)
+    (λ c κs. search needs)
     returns
-    slice-aggregate-same-2
-    same-requires-2
+    (λ c. search needs)
+    (λ c κs. search needs)
     returns-2
-    slice-aggregate-same-3
-    same-requires-3
+    (λ c. search needs)
+    (λ c κs. search needs)
     returns-3
-    slice-aggregate-same-4
-    same-requires-4
+    (λ c. search needs)
+    (λ c κs. search needs)
     returns-4
-    slice-aggregate-same-5
-    same-requires-5
+    (λ c. search needs)
+    (λ c κs. search needs)
     returns-5
-    slice-aggregate-same-6
-    same-requires-6
+    (λ c. search needs)
+    (λ c κs. search needs)
     returns-6
-    parse-signed-requires
+    (λ c κs. search needs)
     returns-7)

@@ -1,5 +1,6 @@
+-- `desk::numbers::parse_signed`: the value is read off the machine's bits.
 use mathlib.Core.Path.{_≡_, sym, ap, _∙_}
-use Prim.Native.Nat.{_-_, _^_, _<_, _+_}
+use Prim.Native.Nat.{_-_, _^_, _<_}
 use native.Mathlib.Omega.{arith}
 use lib.IntN.{pos, negsuc, _-ℤ_}
 use mir.Syntax.{w64}
@@ -11,24 +12,6 @@ use Rattle.desk.proofs.Decimal.{unsigned-small, below-value}
 use borrow.Author.Needs.{needs}
 use Rattle.desk.proofs.numbers.parse_signed.Statement.{statement}
 use Rattle.desk.proofs.numbers.parse_signed.Tie as tie
-
-begins-with-requires : tie.Need-begins-with-requires
-begins-with-requires c κs = search needs
-
-skip-requires : tie.Need-skip-requires
-skip-requires c κs = search needs
-
-add-parse-unsigned : tie.Need-add-parse-unsigned
-add-parse-unsigned c = search needs
-
-parse-unsigned-requires : tie.Need-parse-unsigned-requires
-parse-unsigned-requires c κs = search needs
-
-enum-known-size : tie.Need-enum-known-size
-enum-known-size c = search needs
-
-enum-told : tie.Need-enum-told
-enum-told c = search needs
 
 returns : tie.Need-returns
 unfolding signed
@@ -50,15 +33,6 @@ returns-3 c = let n = c .before .before .size .given .0 .0 in
     let e : toZ w64 (ofZ w64 (negsuc 0 -ℤ toZ w64 (n - 1))) ≡ negsuc (n - 1) = omega (arith, lawsOfSigned, known (cast-t10 c), known (sub-t11 c)) in
     ap Signed.Value e ∙ rw (← c .before .before .before .before .before .before .before .begins-with .ensures, c .before .before .before .before .before .before .if1 .taken, ← c .before .before .before .before .before .skip .ensures, ← c .before .before .before .before .parse-unsigned .ensures, c .before .before .size .given .1) (sym (below-value n (omega arith)))
 
-parse-unsigned-requires-2 : tie.Need-parse-unsigned-requires-2
-parse-unsigned-requires-2 c κs = search needs
-
-enum-known-size-2 : tie.Need-enum-known-size-2
-enum-known-size-2 c = search needs
-
-enum-told-2 : tie.Need-enum-told-2
-enum-told-2 c = search needs
-
 returns-4 : tie.Need-returns-4
 unfolding signed
 returns-4 c = rw (← c .before .before .before .before .begins-with .ensures, c .before .before .before .if1 .left, ← c .before .before .parse-unsigned2 .ensures, c .enum-told2 .given .1)
@@ -76,20 +50,20 @@ pub parse-signed-spec : {M : Type 1} → statement M
 parse-signed-spec =
     tie.close
     (tie.spec
-    begins-with-requires
-    skip-requires
-    add-parse-unsigned
-    parse-unsigned-requires
-    enum-known-size
-    enum-told
+    (λ c κs. search needs)
+    (λ c κs. search needs)
+    (λ c. search needs)
+    (λ c κs. search needs)
+    (λ c. search needs)
+    (λ c. search needs)
     returns
     returns-2
     cast-t10
     sub-t11
     returns-3
-    parse-unsigned-requires-2
-    enum-known-size-2
-    enum-told-2
+    (λ c κs. search needs)
+    (λ c. search needs)
+    (λ c. search needs)
     returns-4
     cast-t13
     returns-5)

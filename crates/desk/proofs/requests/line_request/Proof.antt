@@ -1,10 +1,11 @@
-use mathlib.Core.Path.{_≡_, sym, ap, _∙_}
+-- `desk::requests::line_request`.
+use mathlib.Core.Path.{sym, ap, _∙_}
 use native.Mathlib.Omega.{arith}
 use lib.ListN.{length, length-drop}
 use mir.Facts.{toZ-ofZ}
-use mir.Syntax.{w32, w64}
-use mir.Val.{SFits, toZ, ofZ}
-use borrow.Author.Tests.{eq-eqb, ne-eqb, not-true, not-false}
+use mir.Syntax.{w64}
+use mir.Val.{SFits}
+use borrow.Author.Tests.{not-true, not-false}
 use Rattle.desk.specs.Requests.{lineRequest}
 use Rattle.desk.proofs.Rests.{natural-within}
 use Rattle.desk.proofs.Asks.{print-within}
@@ -12,40 +13,13 @@ use borrow.Author.Needs.{needs}
 use Rattle.desk.proofs.requests.line_request.Statement.{statement}
 use Rattle.desk.proofs.requests.line_request.Tie as tie
 
-print-fields-requires : tie.Need-print-fields-requires
-print-fields-requires c κs = search needs
-
-enum-known-epoch : tie.Need-enum-known-epoch
-enum-known-epoch c = search needs
-
-enum-told : tie.Need-enum-told
-enum-told c = search needs
-
 returns : tie.Need-returns
 unfolding lineRequest
 returns c = rw (← c .before .before .print-fields .ensures, c .enum-told .given .1)
 
-skip-requires : tie.Need-skip-requires
-skip-requires c κs = search needs
-
-natural-field-requires : tie.Need-natural-field-requires
-natural-field-requires c κs = search needs
-
-enum-known-at : tie.Need-enum-known-at
-enum-known-at c = search needs
-
-enum-told-2 : tie.Need-enum-told-2
-enum-told-2 c = search needs
-
 returns-2 : tie.Need-returns-2
 unfolding lineRequest
 returns-2 c = rw (← c .before .before .before .before .before .before .before .print-fields .ensures, c .before .before .before .before .before .epoch .given .1, ← c .before .before .before .skip .ensures, ← c .before .before .natural-field .ensures, c .enum-told2 .given .1)
-
-skip-requires-2 : tie.Need-skip-requires-2
-skip-requires-2 c κs = search needs
-
-begins-with-requires : tie.Need-begins-with-requires
-begins-with-requires c κs = search needs
 
 returns-3 : tie.Need-returns-3
 unfolding lineRequest
@@ -68,17 +42,17 @@ pub line-request-spec : {M : Type 1} → statement M
 line-request-spec =
     tie.close
     (tie.spec
-    print-fields-requires
-    enum-known-epoch
-    enum-told
+    (λ c κs. search needs)
+    (λ c. search needs)
+    (λ c. search needs)
     returns
-    skip-requires
-    natural-field-requires
-    enum-known-at
-    enum-told-2
+    (λ c κs. search needs)
+    (λ c κs. search needs)
+    (λ c. search needs)
+    (λ c. search needs)
     returns-2
-    skip-requires-2
-    begins-with-requires
+    (λ c κs. search needs)
+    (λ c κs. search needs)
     returns-3
     add-t17
     add-t18

@@ -1,56 +1,23 @@
-use mathlib.Core.Path.{_≡_, sym, ap, _∙_}
+-- `desk::requests::print_fields`.
+use mathlib.Core.Path.{sym, ap, _∙_}
 use native.Mathlib.Omega.{arith}
 use lib.ListN.{length, length-drop}
 use mir.Facts.{toZ-ofZ}
-use mir.Syntax.{w32, w64}
-use mir.Val.{SFits, toZ, ofZ}
-use borrow.Author.Tests.{eq-eqb, ne-eqb, not-true, not-false}
+use mir.Syntax.{w64}
+use mir.Val.{SFits}
 use Rattle.desk.specs.Requests.{printFields}
 use Rattle.desk.proofs.Rests.{epoch-within, stamp-within, digits-within}
 use borrow.Author.Needs.{needs}
 use Rattle.desk.proofs.requests.print_fields.Statement.{statement}
 use Rattle.desk.proofs.requests.print_fields.Tie as tie
 
-epoch-field-requires : tie.Need-epoch-field-requires
-epoch-field-requires c κs = search needs
-
-enum-known-epoch : tie.Need-enum-known-epoch
-enum-known-epoch c = search needs
-
-enum-told : tie.Need-enum-told
-enum-told c = search needs
-
 returns : tie.Need-returns
 unfolding printFields
 returns c = rw (← c .before .before .epoch-field .ensures, c .enum-told .given .1)
 
-skip-requires : tie.Need-skip-requires
-skip-requires c κs = search needs
-
-stamp-field-requires : tie.Need-stamp-field-requires
-stamp-field-requires c κs = search needs
-
-enum-known-secs : tie.Need-enum-known-secs
-enum-known-secs c = search needs
-
-enum-told-2 : tie.Need-enum-told-2
-enum-told-2 c = search needs
-
 returns-2 : tie.Need-returns-2
 unfolding printFields
 returns-2 c = rw (← c .before .before .before .before .before .before .before .epoch-field .ensures, c .before .before .before .before .before .epoch .given .1, ← c .before .before .before .skip .ensures, ← c .before .before .stamp-field .ensures, c .enum-told2 .given .1)
-
-skip-requires-2 : tie.Need-skip-requires-2
-skip-requires-2 c κs = search needs
-
-precision-field-requires : tie.Need-precision-field-requires
-precision-field-requires c κs = search needs
-
-enum-known-precision : tie.Need-enum-known-precision
-enum-known-precision c = search needs
-
-enum-told-3 : tie.Need-enum-told-3
-enum-told-3 c = search needs
 
 returns-3 : tie.Need-returns-3
 unfolding printFields
@@ -70,19 +37,19 @@ pub print-fields-spec : {M : Type 1} → statement M
 print-fields-spec =
     tie.close
     (tie.spec
-    epoch-field-requires
-    enum-known-epoch
-    enum-told
+    (λ c κs. search needs)
+    (λ c. search needs)
+    (λ c. search needs)
     returns
-    skip-requires
-    stamp-field-requires
-    enum-known-secs
-    enum-told-2
+    (λ c κs. search needs)
+    (λ c κs. search needs)
+    (λ c. search needs)
+    (λ c. search needs)
     returns-2
-    skip-requires-2
-    precision-field-requires
-    enum-known-precision
-    enum-told-3
+    (λ c κs. search needs)
+    (λ c κs. search needs)
+    (λ c. search needs)
+    (λ c. search needs)
     returns-3
     add-t14
     add-t15

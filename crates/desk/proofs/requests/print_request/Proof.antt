@@ -1,23 +1,12 @@
-use mathlib.Core.Path.{_≡_, sym, ap, _∙_}
-use native.Mathlib.Omega.{arith}
-use lib.ListN.{length, length-drop}
+-- `desk::requests::print_request`.
 use mir.Facts.{toZ-ofZ}
-use mir.Syntax.{w32, w64}
-use mir.Val.{SFits, toZ, ofZ}
-use borrow.Author.Tests.{eq-eqb, ne-eqb, not-true, not-false}
+use mir.Syntax.{w64}
+use mir.Val.{SFits}
+use borrow.Author.Tests.{eq-eqb, ne-eqb}
 use Rattle.desk.specs.Requests.{printRequest}
 use borrow.Author.Needs.{needs}
 use Rattle.desk.proofs.requests.print_request.Statement.{statement}
 use Rattle.desk.proofs.requests.print_request.Tie as tie
-
-print-fields-requires : tie.Need-print-fields-requires
-print-fields-requires c κs = search needs
-
-enum-known-epoch : tie.Need-enum-known-epoch
-enum-known-epoch c = search needs
-
-enum-told : tie.Need-enum-told
-enum-told c = search needs
 
 returns : tie.Need-returns
 unfolding printRequest
@@ -34,4 +23,4 @@ returns-3 c = let f0 : SFits w64 (c .before .before .epoch .given .0 .0) = searc
 pub print-request-spec : {M : Type 1} → statement M
 print-request-spec =
     tie.close
-    (tie.spec print-fields-requires enum-known-epoch enum-told returns returns-2 returns-3)
+    (tie.spec (λ c κs. search needs) (λ c. search needs) (λ c. search needs) returns returns-2 returns-3)

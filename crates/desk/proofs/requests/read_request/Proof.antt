@@ -1,34 +1,19 @@
-use mathlib.Core.Path.{_≡_, sym, ap, _∙_}
+-- `desk::requests::read_request`.
+use mathlib.Core.Path.{sym, _∙_}
 use native.Mathlib.Omega.{arith}
-use lib.ListN.{length, length-drop}
 use mir.Facts.{toZ-ofZ}
-use mir.Syntax.{w32, w64}
-use mir.Val.{SFits, toZ, ofZ}
-use borrow.Author.Tests.{eq-eqb, ne-eqb, not-true, not-false}
+use mir.Syntax.{w64}
+use mir.Val.{SFits}
+use borrow.Author.Tests.{not-true, not-false}
 use Rattle.desk.specs.Requests.{readRequest}
 use Rattle.desk.proofs.Rests.{epoch-within}
 use borrow.Author.Needs.{needs}
 use Rattle.desk.proofs.requests.read_request.Statement.{statement}
 use Rattle.desk.proofs.requests.read_request.Tie as tie
 
-epoch-field-requires : tie.Need-epoch-field-requires
-epoch-field-requires c κs = search needs
-
-enum-known-epoch : tie.Need-enum-known-epoch
-enum-known-epoch c = search needs
-
-enum-told : tie.Need-enum-told
-enum-told c = search needs
-
 returns : tie.Need-returns
 unfolding readRequest
 returns c = rw (← c .before .before .epoch-field .ensures, c .enum-told .given .1)
-
-skip-requires : tie.Need-skip-requires
-skip-requires c κs = search needs
-
-begins-with-requires : tie.Need-begins-with-requires
-begins-with-requires c κs = search needs
 
 returns-2 : tie.Need-returns-2
 unfolding readRequest
@@ -52,12 +37,12 @@ pub read-request-spec : {M : Type 1} → statement M
 read-request-spec =
     tie.close
     (tie.spec
-    epoch-field-requires
-    enum-known-epoch
-    enum-told
+    (λ c κs. search needs)
+    (λ c. search needs)
+    (λ c. search needs)
     returns
-    skip-requires
-    begins-with-requires
+    (λ c κs. search needs)
+    (λ c κs. search needs)
     returns-2
     add-from
     add-from-2

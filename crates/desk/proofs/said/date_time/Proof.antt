@@ -1,22 +1,13 @@
-use mathlib.Core.Path.{_≡_, ap, _∙_}
+-- `desk::said::date_time`.
+use mathlib.Core.Path.{ap, _∙_}
 use mir.Facts.{toZ-ofZ}
 use mir.Syntax.{w64}
 use mir.Val.{SFits}
 use Rattle.errors.specs.Refusals.{gives}
-use Rattle.desk.specs.Texts.{integer}
-use Rattle.desk.specs.Answers.{line, timeLine, durationLine, orderText}
+use Rattle.desk.specs.Answers.{line, timeLine}
 use borrow.Author.Needs.{needs}
 use Rattle.desk.proofs.said.date_time.Statement.{statement}
 use Rattle.desk.proofs.said.date_time.Tie as tie
-
-enum-known-a : tie.Need-enum-known-a
-enum-known-a c = search needs
-
-enum-known-a-2 : tie.Need-enum-known-a-2
-enum-known-a-2 c = search needs
-
-of-date-time-requires : tie.Need-of-date-time-requires
-of-date-time-requires c κs = search needs
 
 returns : tie.Need-returns
 returns c = let t = c .before .before .a .given .0 .0 in let f : SFits w64 (t .secs) = search needs in ap (λ x. timeLine (gives (x, t .nanos))) (toZ-ofZ {w = w64} f) ∙ rw (c .before .before .a .given .1)
@@ -27,4 +18,4 @@ returns-2 c = rw (c .before .before .a2 .given .1) (c .of-date-time .ensures)
 
 pub date-time-spec : {M : Type 1} → statement M
 date-time-spec =
-    tie.close (tie.spec enum-known-a enum-known-a-2 of-date-time-requires returns returns-2)
+    tie.close (tie.spec (λ c. search needs) (λ c. search needs) (λ c κs. search needs) returns returns-2)

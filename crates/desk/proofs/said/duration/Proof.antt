@@ -1,22 +1,8 @@
-use mathlib.Core.Path.{_≡_, ap, _∙_}
-use mir.Facts.{toZ-ofZ}
-use mir.Syntax.{w64}
-use mir.Val.{SFits}
-use Rattle.errors.specs.Refusals.{gives}
-use Rattle.desk.specs.Texts.{integer}
-use Rattle.desk.specs.Answers.{line, timeLine, durationLine, orderText}
+-- `desk::said::duration`.
+use Rattle.desk.specs.Answers.{line}
 use borrow.Author.Needs.{needs}
 use Rattle.desk.proofs.said.duration.Statement.{statement}
 use Rattle.desk.proofs.said.duration.Tie as tie
-
-enum-known-a : tie.Need-enum-known-a
-enum-known-a c = search needs
-
-enum-known-a-2 : tie.Need-enum-known-a-2
-enum-known-a-2 c = search needs
-
-of-count-requires : tie.Need-of-count-requires
-of-count-requires c κs = search needs
 
 returns : tie.Need-returns
 returns c = rw (c .before .a .given .1)
@@ -27,4 +13,4 @@ returns-2 c = rw (c .before .before .a2 .given .1) (c .of-count .ensures)
 
 pub duration-spec : {M : Type 1} → statement M
 duration-spec =
-    tie.close (tie.spec enum-known-a enum-known-a-2 of-count-requires returns returns-2)
+    tie.close (tie.spec (λ c. search needs) (λ c. search needs) (λ c κs. search needs) returns returns-2)

@@ -1,18 +1,7 @@
+-- `desk::said::of_count`.
 use borrow.Author.Needs.{needs}
 use Rattle.desk.proofs.said.of_count.Statement.{statement}
 use Rattle.desk.proofs.said.of_count.Tie as tie
-
-enum-told : tie.Need-enum-told
-enum-told c = search needs
-
-bare-requires : tie.Need-bare-requires
-bare-requires c κs = search needs
-
-enum-told-2 : tie.Need-enum-told-2
-enum-told-2 c = search needs
-
-bare-requires-2 : tie.Need-bare-requires-2
-bare-requires-2 c κs = search needs
 
 returns : tie.Need-returns
 returns c = rw (c .before .enum-told .given .1) (c .bare .ensures)
@@ -22,4 +11,4 @@ returns-2 c = rw (c .before .enum-told2 .given .1) (c .bare2 .ensures)
 
 pub of-count-spec : {M : Type 1} → statement M
 of-count-spec =
-    tie.close (tie.spec enum-told bare-requires enum-told-2 bare-requires-2 returns returns-2)
+    tie.close (tie.spec (λ c. search needs) (λ c κs. search needs) (λ c. search needs) (λ c κs. search needs) returns returns-2)

@@ -1,24 +1,7 @@
+-- `desk::said::of_print`.
 use borrow.Author.Needs.{needs}
 use Rattle.desk.proofs.said.of_print.Statement.{statement}
 use Rattle.desk.proofs.said.of_print.Tie as tie
-
-enum-told : tie.Need-enum-told
-enum-told c = search needs
-
-bare-requires : tie.Need-bare-requires
-bare-requires c κs = search needs
-
-enum-told-2 : tie.Need-enum-told-2
-enum-told-2 c = search needs
-
-bare-requires-2 : tie.Need-bare-requires-2
-bare-requires-2 c κs = search needs
-
-enum-told-3 : tie.Need-enum-told-3
-enum-told-3 c = search needs
-
-bare-requires-3 : tie.Need-bare-requires-3
-bare-requires-3 c κs = search needs
 
 returns : tie.Need-returns
 returns c = rw (c .before .enum-told .given .1) (c .bare .ensures)
@@ -33,12 +16,12 @@ pub of-print-spec : {M : Type 1} → statement M
 of-print-spec =
     tie.close
     (tie.spec
-    enum-told
-    bare-requires
-    enum-told-2
-    bare-requires-2
-    enum-told-3
-    bare-requires-3
+    (λ c. search needs)
+    (λ c κs. search needs)
+    (λ c. search needs)
+    (λ c κs. search needs)
+    (λ c. search needs)
+    (λ c κs. search needs)
     returns
     returns-2
     returns-3)

@@ -1,3 +1,4 @@
+-- `desk::said::valued`.
 use mathlib.Core.Path.{refl}
 use Rattle.desk.specs.Said.{refusedText}
 use Rattle.desk.proofs.said.valued.Statement.{statement}

@@ -1,3 +1,4 @@
+-- `desk::texts::put`. The invariant: the text from i on is still to be written; the measure: the bytes left.
 use mathlib.Core.Path.{_≡_, sym, _∙_, refl}
 use Prim.Native.Nat.{_+_, _-_, _≤_}
 use native.Mathlib.Omega.{arith}

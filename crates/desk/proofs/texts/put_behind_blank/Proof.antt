@@ -1,16 +1,11 @@
-use mathlib.Core.Path.{_≡_, sym, ap, _∙_}
+-- `desk::texts::put_behind_blank`.
+use mathlib.Core.Path.{_∙_}
 use native.Mathlib.Omega.{arith}
 use lib.ListN.{length-set}
 use Rattle.desk.proofs.Puts.{put-on, put-one}
 use borrow.Author.Needs.{needs}
 use Rattle.desk.proofs.texts.put_behind_blank.Statement.{statement}
 use Rattle.desk.proofs.texts.put_behind_blank.Tie as tie
-
-slice-write-out : tie.Need-slice-write-out
-slice-write-out c = search needs
-
-add-put-natural : tie.Need-add-put-natural
-add-put-natural c = search needs
 
 put-natural-requires : tie.Need-put-natural-requires
 put-natural-requires c κs = simp length-set (omega arith)
@@ -23,4 +18,4 @@ returns c = (put-on (put-one _ _ 32) (c .before .before .put-natural .ensures .0
 
 pub put-behind-blank-spec : {M : Type 1} → statement M
 put-behind-blank-spec =
-    tie.close (tie.spec slice-write-out add-put-natural put-natural-requires same-length returns)
+    tie.close (tie.spec (λ c. search needs) (λ c. search needs) put-natural-requires same-length returns)

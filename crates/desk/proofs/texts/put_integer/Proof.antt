@@ -1,19 +1,16 @@
+-- `desk::texts::put_integer`: the sign is tested on the machine's bits.
 use mathlib.Core.List.{_∷_}
-use Prim.Native.Nat.{ℕ, suc, _+_, min}
+use Prim.Native.Nat.{_+_, min}
 use native.Mathlib.Numerals.{add-one}
-use lib.IntN.{ℤ, pos, negsuc, natAbs, _-ℤ_}
-use mir.Facts.{toZ-ofZ}
+use lib.IntN.{negsuc, natAbs, _-ℤ_}
 use Rattle.integers.proofs.Signed.{plus, minus, apart, size-law}
 use Rattle.integers.proofs.Machine.{signed, Known, known, natural as atLeastZero}
 use mathlib.Core.Path.{_≡_, sym, ap, _∙_}
-use Prim.Native.Nat.{suc, _+_}
 use native.Mathlib.Omega.{arith}
-use lib.IntN.{pos, negsuc, natAbs, _-ℤ_}
 use lib.ListN.{length-set}
 use mir.Syntax.{w64}
 use mir.Val.{toZ, ofZ}
-use Rattle.integers.proofs.Machine.{signed, known}
-use Rattle.desk.specs.Texts.{integer, natural, Put}
+use Rattle.desk.specs.Texts.{integer, natural}
 use Rattle.desk.proofs.Puts.{put-on, put-one}
 use borrow.Author.Needs.{needs}
 use Rattle.desk.proofs.texts.put_integer.Statement.{statement}
@@ -21,12 +18,6 @@ use Rattle.desk.proofs.texts.put_integer.Tie as tie
 
 here : (s : tie.Start) → let y = s .args .n in Known w64 y × (natAbs y ≡ plus y + minus y) × (min (plus y) (minus y) ≡ 0)
 here s = (known (s .fits .n), size-law (s .args .n), apart (s .args .n))
-
-slice-write-out : tie.Need-slice-write-out
-slice-write-out c = search needs
-
-add-put-natural : tie.Need-add-put-natural
-add-put-natural c = search needs
 
 sub-put-natural : tie.Need-sub-put-natural
 sub-put-natural c = omega (arith, signed, here (search))
@@ -55,12 +46,6 @@ returns c = let y = c .before .before .before .before .before .before .args .n i
 cast-put-natural-2 : tie.Need-cast-put-natural-2
 cast-put-natural-2 c = omega (arith, signed, here (search))
 
-put-natural-requires-2 : tie.Need-put-natural-requires-2
-put-natural-requires-2 c κs = search needs
-
-same-length-2 : tie.Need-same-length-2
-same-length-2 c = search needs
-
 returns-2 : tie.Need-returns-2
 unfolding integer
 returns-2 c = let e = atLeastZero (c .before .before .before .before .before .before .fits .n) (c .before .before .before .before .if1 .left) in
@@ -70,8 +55,8 @@ pub put-integer-spec : {M : Type 1} → statement M
 put-integer-spec =
     tie.close
     (tie.spec
-    slice-write-out
-    add-put-natural
+    (λ c. search needs)
+    (λ c. search needs)
     sub-put-natural
     cast-put-natural
     add-put-natural-2
@@ -79,6 +64,6 @@ put-integer-spec =
     same-length
     returns
     cast-put-natural-2
-    put-natural-requires-2
-    same-length-2
+    (λ c κs. search needs)
+    (λ c. search needs)
     returns-2)

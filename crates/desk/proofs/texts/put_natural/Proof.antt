@@ -1,6 +1,7 @@
+-- `desk::texts::put_natural`. The invariant: the first digits are still to be written, those of m; the measure: how many they are.
 use borrow.Author.Needs.{needs}
-use mathlib.Core.Path.{_≡_, sym, ap, _∙_, refl}
-use Prim.Native.Nat.{_≤_, _<_, _+_}
+use mathlib.Core.Path.{_≡_, sym, _∙_, refl}
+use Prim.Native.Nat.{_≤_}
 use native.Mathlib.Omega.{arith}
 use lib.ListN.{length, length-set}
 use lib.Seq.{sets}
@@ -15,9 +16,6 @@ Inv-loop out₀ at n w left₀ m₀ out left m = (left ≤ w) × (w ≤ 20) × (
 
 abbrev μ-loop : tie.MeasureT-loop
 μ-loop out₀ at n w left₀ m₀ out left m = left
-
-width-requires : tie.Need-width-requires Inv-loop μ-loop
-width-requires c κs = search needs
 
 loop-holds : tie.Need-loop-holds Inv-loop μ-loop
 loop-holds c = (omega arith, c .width .ensures .1, refl, refl)
@@ -60,7 +58,7 @@ put-natural-spec =
     (tie.spec
     Inv-loop
     μ-loop
-    width-requires
+    (λ c κs. search needs)
     loop-holds
     sub-left
     cast-out

@@ -1,3 +1,4 @@
+-- `desk::texts::width`. The invariant: the width is sought from w on; the measure: what is left to 20.
 use mathlib.Core.Path.{_≡_, sym, ap, _∙_, refl}
 use Prim.Native.Nat.{_≤_, _<_, _+_, _-_, _*_, _^_}
 use native.Mathlib.Omega.{arith}

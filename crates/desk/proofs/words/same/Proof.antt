@@ -1,5 +1,6 @@
+-- `desk::words::same`. The invariant: the words are alike as their rests from i on are; the measure: the bytes left.
 use mathlib.Core.Path.{_≡_, sym, _∙_, refl}
-use Prim.Native.Nat.{_+_, _-_, _≤_}
+use Prim.Native.Nat.{_-_, _≤_}
 use native.Mathlib.Omega.{arith}
 use lib.ListN.{length, drop}
 use Rattle.desk.specs.Words.{alike}

@@ -1,3 +1,4 @@
+-- `desk::words::word_length`. The invariant: the word goes on with the rest from i on; the measure: the bytes left.
 use mathlib.Core.Path.{_≡_, sym, _∙_}
 use Prim.Native.Nat.{_+_, _-_, _≤_}
 use native.Mathlib.Omega.{arith}
