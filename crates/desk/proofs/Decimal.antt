@@ -1,5 +1,5 @@
 -- Decimal numbers: what the reader makes of a first byte, and how large a number is.
-use mathlib.Core.Path.{_≡_, refl, sym, ap, _∙_}
+use mathlib.Core.Path.{_≡_, refl}
 use mathlib.Core.Bool.{Bool, true, false, cond, _&&_}
 use mathlib.Core.List.{List, [], _∷_}
 use Prim.Native.Nat.{ℕ, zero, suc, _+_, _-_, _<_, _≤_}
@@ -8,7 +8,7 @@ use native.Mathlib.Omega.{arith}
 use lib.Dec.{eqb, ltb, leb}
 use lib.IntN.{negsuc}
 use lib.ListN.{length}
-use borrow.Author.Tests.{eqb-true, leb-true, le-ltb, lt-ltb}
+use borrow.Author.Tests.{eqb-true, leb-true, lt-ltb}
 use Rattle.reader.specs.Numbers.{beginsWith, isDigit, allDigits, decimal, digitsUpTo, number}
 use Rattle.reader.specs.declared.numbers.Number.{Number}
 use Rattle.reader.specs.declared.numbers.Number.the-variants.{Value, Bad}

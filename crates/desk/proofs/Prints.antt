@@ -6,7 +6,7 @@ use Prim.Native.Nat.{ℕ, suc, _+_, _-_, _<_, _≤_}
 use native.Mathlib.Omega.{arith}
 use lib.Dec.{ltb}
 use lib.IntN.{ℤ, _+ℤ_}
-use lib.ListN.{length, set, take, drop}
+use lib.ListN.{length, set}
 use lib.Seq.{sets, sets-eq, set-comm}
 use mir.Syntax.{w64}
 use mir.Val.{SFits}

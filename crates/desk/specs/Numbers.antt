@@ -1,9 +1,9 @@
 -- The numbers of a request, and what stands for one.
-use mathlib.Core.Bool.{Bool, true, false, cond, _&&_}
+use mathlib.Core.Bool.{cond, _&&_}
 use mathlib.Core.List.{List}
 use Prim.Native.Nat.{ℕ, zero, suc, _+_}
 use lib.Dec.{ltb}
-use lib.IntN.{ℤ, pos, negsuc}
+use lib.IntN.{pos, negsuc}
 use lib.ListN.{length, drop}
 use Rattle.printer.specs.declared.Precision.the-variants.{Default, Digits}
 use Rattle.reader.specs.Numbers.{beginsWith, digitsUpTo}

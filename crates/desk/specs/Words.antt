@@ -5,7 +5,6 @@ use Prim.Native.Char.{code}
 use Prim.Native.Nat.{ℕ, suc, _-_}
 use Prim.Native.String.{String, [] as noText, _∷_ as _then_}
 use lib.Dec.{eqb}
-use lib.ListN.{take, drop}
 
 -- the bytes of a quoted text
 abbrev pub bytes : String → List ℕ
