@@ -1,18 +1,18 @@
 -- Decimal numbers: what the reader makes of a first byte, and how large a number is.
-use mathlib.Core.Path.{_≡_, refl}
+use mathlib.Core.Path.{_≡_}
 use mathlib.Core.Bool.{Bool, true, false, cond, _&&_}
 use mathlib.Core.List.{List, [], _∷_}
 use Prim.Native.Nat.{ℕ, zero, suc, _+_, _-_, _<_, _≤_}
 use native.Mathlib.Numerals.{sub-one}
 use native.Mathlib.Omega.{arith}
-use lib.Dec.{eqb, ltb, leb}
+use lib.Dec.{eqb, ltb}
 use lib.IntN.{negsuc}
 use lib.ListN.{length}
-use borrow.Author.Tests.{eqb-true, leb-true, lt-ltb}
-use Rattle.reader.specs.Numbers.{beginsWith, isDigit, allDigits, decimal, digitsUpTo, number}
+use borrow.Author.Tests.{eqb-true, lt-ltb}
+use Rattle.reader.specs.Numbers.{beginsWith, isDigit, allDigits, digitsUpTo, number}
 use Rattle.reader.specs.declared.numbers.Number.{Number}
 use Rattle.reader.specs.declared.numbers.Number.the-variants.{Value, Bad}
-use Rattle.reader.proofs.Digits.{bad-digit}
+use Rattle.reader.proofs.Digits.{bad-digit, digits-small}
 use Rattle.desk.specs.Numbers.{unsigned, below}
 use Rattle.desk.specs.declared.numbers.Signed.the-variants as Signed
 
@@ -37,21 +37,14 @@ pub as-read : (limit : ℕ) (s : List ℕ) → beginsWith 43 s ≡ false → (be
 unfolding unsigned number
 as-read limit s e h = rw (e, h)
 
--- a number is at most its limit
-small : (limit d v : ℕ) (a b : Bool) → leb d limit ≡ b → cond (a && b) (Value d) Bad ≡ Value v → v ≤ limit
-small limit d v true true e h = let k : v ≡ d = cc in rw k (leb-true d limit e)
-small limit d v true false e h = let k : v ≡ limit = cc in omega arith
-small limit d v false b e h = let k : v ≡ limit = cc in omega arith
-
 not-bad : (b : Bool) (x : Number) {v : ℕ} → cond b Bad x ≡ Value v → x ≡ Value v
 not-bad true x h = cc
 not-bad false x h = h
 
+-- a number is at most its limit
 pub unsigned-small : (limit : ℕ) (s : List ℕ) {v : ℕ} → unsigned limit s ≡ Value v → v ≤ limit
-unfolding unsigned digitsUpTo
-unsigned-small limit s {v} h =
-    small limit (decimal s) v (ltb 0 (length s) && allDigits s) (leb (decimal s) limit) refl
-    (not-bad (beginsWith 48 s && ltb 1 (length s)) (digitsUpTo limit s) h)
+unfolding unsigned
+unsigned-small limit s h = digits-small limit s (not-bad (beginsWith 48 s && ltb 1 (length s)) (digitsUpTo limit s) h)
 
 pub below-value : (n : ℕ) → 0 < n → below (Value n) ≡ Signed.Value (negsuc (n - 1))
 below-value zero h = absurd (omega arith)

@@ -1,6 +1,6 @@
--- Rows of digits: how long they are, where they can be cut, and that they tell the number.
+-- Rows of digits: how long they are, and where they can be cut.
 use mathlib.Core.Path.{_≡_, refl, sym, ap, _∙_}
-use mathlib.Core.List.{List, [], _∷_, _++_, append-assoc, append-nil}
+use mathlib.Core.List.{List, _++_, append-assoc, append-nil}
 use Prim.Native.Nat.{ℕ, zero, suc, _+_, _-_, _*_, _/_, _%_, _^_, _<_, _≤_}
 use native.Mathlib.Nat.{pow-suc, pow-succ', pow-zero, div-one, div-div-eq-div-mul, add-suc, add-zero, mul-assoc, div-add-mod'}
 use native.Mathlib.Numerals.{sub-one}
@@ -55,23 +55,3 @@ pub digits-split : (b w n : ℕ) → b ≤ w → digits w n ≡ digits (w - b) (
 digits-split b w n h =
     let e : w ≡ w - b + b = omega arith in
     ap (λ k. digits k n) e ∙ behind (w - b) b n ∙ rw (digits-low b b n (omega arith))
-
--- the number that digits write, behind a number m that others wrote
-unfoldable pub valueFrom : ℕ → List ℕ → ℕ
-valueFrom m [] = m
-valueFrom m (x ∷ s) = valueFrom (m * 10 + (x - 48)) s
-
-value-append : (m : ℕ) (a b : List ℕ) → valueFrom m (a ++ b) ≡ valueFrom (valueFrom m a) b
-unfolding valueFrom
-value-append m [] b = refl
-value-append m (x ∷ a) b = value-append (m * 10 + (x - 48)) a b
-
-pub digits-value : (w n : ℕ) → n < 10 ^ w → valueFrom 0 (digits w n) ≡ n
-unfolding valueFrom digits
-digits-value zero n h = omega arith
-digits-value (suc w) n h =
-    let p : n < 10 ^ w * 10 = rw pow-suc at h in
-    value-append 0 (digits w (n / 10)) _ ∙ rw (digits-value w (n / 10) (omega arith)) (omega arith)
-
-pub digits-one : (w m n : ℕ) → m < 10 ^ w → n < 10 ^ w → digits w m ≡ digits w n → m ≡ n
-digits-one w m n h k e = sym (digits-value w m h) ∙ ap (valueFrom 0) e ∙ digits-value w n k

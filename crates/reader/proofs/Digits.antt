@@ -81,7 +81,7 @@ small limit d v true true e h = let k : v ≡ d = cc in rw k (leb-true d limit e
 small limit d v true false e h = let k : v ≡ limit = cc in omega arith
 small limit d v false b e h = let k : v ≡ limit = cc in omega arith
 
-digits-small : (limit : ℕ) (s : List ℕ) {v : ℕ} → digitsUpTo limit s ≡ Value v → v ≤ limit
+pub digits-small : (limit : ℕ) (s : List ℕ) {v : ℕ} → digitsUpTo limit s ≡ Value v → v ≤ limit
 unfolding digitsUpTo
 digits-small limit s {v} h = small limit (decimal s) v (ltb 0 (length s) && allDigits s) (leb (decimal s) limit) refl h
 
