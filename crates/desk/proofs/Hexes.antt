@@ -1,13 +1,14 @@
 -- HEX, one pair after the other.
-use mathlib.Core.Path.{_≡_, refl}
+use mathlib.Core.Path.{_≡_, refl, sym, ap, _∙_}
 use mathlib.Core.Bool.{Bool, true, false, cond, and-false}
 use mathlib.Core.List.{List, [], _∷_}
 use Prim.Native.Nat.{ℕ, suc, _+_, _-_, _*_, _/_, _%_, _<_, _≤_}
 use native.Mathlib.Numerals.{add-one}
 use native.Mathlib.Omega.{arith}
-use lib.ListN.{length, set, drop, getD, drop-of-length-le}
+use lib.ListN.{length, set, take, drop, getD, length-take, drop-of-length-le}
 use lib.Seq.{sets, drop-cons}
 use borrow.Author.Tests.{lt-ltb, le-ltb}
+use Rattle.desk.specs.declared.hex.Unhexed.{Unhexed}
 use Rattle.desk.specs.declared.hex.Unhexed.the-variants.{Length, Bad}
 use Rattle.desk.specs.Words.{bytes, alike}
 use Rattle.desk.specs.Hex.{digitValue, inPairs, pairs, isHex, hexBytes, unhexed, digitOf, digitPairs, hexText}
@@ -102,7 +103,7 @@ module _ (s : List ℕ) where
       go true h = let z : _≡_ {A = ℕ} 0 1 = cc in absurd (omega arith)
       go false h = refl
 
-  pub is-hex : {n : ℕ} → Length n ≡ unhexed s → (isHex s ≡ true) × (n ≡ length (hexBytes s))
+  is-hex : {n : ℕ} → Length n ≡ unhexed s → (isHex s ≡ true) × (n ≡ length (hexBytes s))
   unfolding unhexed
   is-hex {n} e = go (isHex s) e
     where
@@ -123,3 +124,17 @@ hex-half s = go (alike s (bytes "-"))
     go : (b : Bool) → 2 * length (cond b [] (pairs s)) ≤ length s
     go true = omega arith
     go false = pairs-half s
+
+-- a word that stands for the n bytes in front of l
+pub record HexRead (s l : List ℕ) (n : ℕ) : Type 0 where
+  pub good : isHex s ≡ true
+  pub front : take n l ≡ hexBytes s
+  pub within : n ≤ length l
+  pub half : 2 * n ≤ length s
+
+pub hex-read : (s l : List ℕ) {n : ℕ} {r : Unhexed} → r ≡ unhexed s → (isHex s ≡ true → take (length (hexBytes s)) l ≡ hexBytes s) → r ≡ Length n → HexRead s l n
+hex-read s l {n} e t f =
+    let q = is-hex s (sym f ∙ e) in
+    let u : take n l ≡ hexBytes s = rw (q .1) (t (q .0)) in
+    let k = simp length-take at (ap length u) in
+    record { good = q .0; front = u; within = omega arith; half = omega (arith, hex-half s) }

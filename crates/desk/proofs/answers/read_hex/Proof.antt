@@ -2,7 +2,7 @@
 use mathlib.Core.Path.{sym, ap, _∙_}
 use native.Mathlib.Omega.{arith}
 use lib.ListN.{length, length-take}
-use Rattle.desk.proofs.Hexes.{no-hex, is-hex}
+use Rattle.desk.proofs.Hexes.{no-hex, hex-read}
 use borrow.Author.Needs.{needs}
 use Rattle.desk.proofs.answers.read_hex.Statement.{statement}
 use Rattle.desk.proofs.answers.read_hex.Tie as tie
@@ -11,16 +11,25 @@ returns : tie.Need-returns
 returns c = rw (no-hex _ (sym (c .before .before .before .before .before .enum-told .given .1) ∙ c .before .before .before .before .before .before .before .before .unhex .ensures .0)) (c .before .before .put .ensures, omega (arith, c .before .before .put .ensures .place))
 
 array-share-prefix-bytes : tie.Need-array-share-prefix-bytes
-array-share-prefix-bytes c = let q = is-hex _ (sym (c .before .before .n .given .1) ∙ c .before .before .before .before .before .unhex .ensures .0) in let t = c .before .before .before .before .before .unhex .ensures .1 (q .0) in let k = simp length-take at (ap length t) in omega arith
+array-share-prefix-bytes c =
+    let u : tie.After-unhex = search in
+    let k : tie.After-n = search in
+    let q = hex-read _ _ (u .unhex .ensures .0) (u .unhex .ensures .1) (k .n .given .1) in
+    omega arith
 
 slice-aggregate-from-str : tie.Need-slice-aggregate-from-str
-slice-aggregate-from-str c = let q = is-hex _ (sym (c .before .before .before .n .given .1) ∙ c .before .before .before .before .before .before .unhex .ensures .0) in let t = c .before .before .before .before .before .before .unhex .ensures .1 (q .0) in let k = simp length-take at (ap length t) in rw length-take (omega arith)
+slice-aggregate-from-str c =
+    let u : tie.After-unhex = search in
+    let k : tie.After-n = search in
+    let q = hex-read _ _ (u .unhex .ensures .0) (u .unhex .ensures .1) (k .n .given .1) in
+    rw length-take (omega arith)
 
 returns-2 : tie.Need-returns-2
-returns-2 c = let q = is-hex _ (sym (c .before .before .before .before .before .before .before .before .n .given .1) ∙ c .before .before .before .before .before .before .before .before .before .before .before .unhex .ensures .0) in let t = c .before .before .before .before .before .before .before .before .before .before .before .unhex .ensures .1 (q .0) in let k = simp length-take at (ap length t) in
-    let u = rw (← q .1) at t in
-    let d = c .before .before .before .before .from-str .ensures in
-    (rw (q .0, ← u, ← d, ← c .before .before .before .read .ensures) (c .before .before .put-said .ensures .0), omega (arith, c .before .before .put-said .ensures .1))
+returns-2 c =
+    let u : tie.After-unhex = search in
+    let k : tie.After-n = search in
+    let q = hex-read _ _ (u .unhex .ensures .0) (u .unhex .ensures .1) (k .n .given .1) in
+    (rw (q .good, ← q .front, ← c .before .before .before .before .from-str .ensures, ← c .before .before .before .read .ensures) (c .before .before .put-said .ensures .0), omega (arith, c .before .before .put-said .ensures .1))
 
 pub read-hex-spec : {M : Type 1} → statement M
 read-hex-spec =
