@@ -1,7 +1,8 @@
 -- The numbers of a request, and what stands for one.
 use mathlib.Core.Bool.{cond, _&&_}
-use mathlib.Core.List.{List}
+use mathlib.Core.List.{List, [], _∷_}
 use Prim.Native.Nat.{ℕ, zero, suc, _+_}
+use Prim.Native.String.{String}
 use lib.Dec.{ltb}
 use lib.IntN.{pos, negsuc}
 use lib.ListN.{length, drop}
@@ -9,7 +10,7 @@ use Rattle.printer.specs.declared.Precision.the-variants.{Default, Digits}
 use Rattle.reader.specs.Numbers.{beginsWith, digitsUpTo}
 use Rattle.reader.specs.declared.numbers.Number.{Number}
 use Rattle.reader.specs.declared.numbers.Number.the-variants as Number
-use Rattle.desk.specs.Words.{bytes, alike}
+use Rattle.desk.specs.Words.{bytes, alike, byWord}
 use Rattle.desk.specs.declared.numbers.Signed.{Signed}
 use Rattle.desk.specs.declared.numbers.Signed.the-variants.{Value, Bad}
 use Rattle.desk.specs.declared.numbers.Precise.{Precise}
@@ -34,15 +35,20 @@ below Number.Bad = Bad
 unfoldable pub signed : ℕ → List ℕ → Signed
 signed top s = cond (beginsWith 45 s) (below (unsigned (top + 1) (drop 1 s))) (above (unsigned top s))
 
--- an epoch: one of the six names, or an i64
+-- the names of epochs
+abbrev pub epochNames : List (String × Signed)
+epochNames =
+    ("monotonic", Value (pos 0))
+    ∷ ("gps", Value (pos 315964819))
+    ∷ ("gst", Value (pos 935280019))
+    ∷ ("bdt", Value (pos 1136073633))
+    ∷ ("tai1958", Value (negsuc 378691199))
+    ∷ ("tai1972", Value (pos 63072000))
+    ∷ []
+
+-- an epoch: one of them, or an i64
 unfoldable pub epoch : List ℕ → Signed
-epoch s =
-    cond (alike s (bytes "monotonic")) (Value (pos 0))
-    (cond (alike s (bytes "gps")) (Value (pos 315964819))
-    (cond (alike s (bytes "gst")) (Value (pos 935280019))
-    (cond (alike s (bytes "bdt")) (Value (pos 1136073633))
-    (cond (alike s (bytes "tai1958")) (Value (negsuc 378691199))
-    (cond (alike s (bytes "tai1972")) (Value (pos 63072000)) (signed 9223372036854775807 s))))))
+epoch s = byWord s (signed 9223372036854775807 s) epochNames
 
 abbrev pub digits : Number → Precise
 digits (Number.Value n) = Precise.Value (Digits n)

@@ -8,7 +8,7 @@ use lib.IntN.{ℤ}
 use lib.ListN.{length, take, drop}
 use Rattle.printer.specs.declared.Precision.{Precision}
 use Rattle.reader.specs.Numbers.{beginsWith}
-use Rattle.desk.specs.Words.{bytes, wordLength, alike}
+use Rattle.desk.specs.Words.{wordLength, byWord}
 use Rattle.desk.specs.Fields.{wholeField, epochField, naturalField, precisionField, stampField, onWhole, onNatural, onDigits, onStamp}
 use Rattle.desk.specs.declared.requests.Request.{Request}
 use Rattle.desk.specs.declared.requests.Request.the-variants.{Counts, Read, ReadHex, Print, Line, Malformed}
@@ -120,11 +120,6 @@ lineRequest before s =
     onNatural (naturalField 18446744073709551615 s) s Malformed λ at m s.
     atBlank s (Line epoch secs nanos precision at (before + n + m + 1))
 
--- the request in the verb's row of a table, or another
-abbrev pub byVerb : List ℕ → Request → List (String × Request) → Request
-byVerb verb other [] = other
-byVerb verb other (row ∷ rows) = cond (alike verb (bytes (row .0))) (row .1) (byVerb verb other rows)
-
 -- the verbs on counts, and what stands behind each
 abbrev pub countVerbs : List ℕ → List (String × Request)
 countVerbs s =
@@ -140,7 +135,7 @@ countVerbs s =
     ∷ []
 
 unfoldable pub countRequest : List ℕ → List ℕ → Request
-countRequest verb s = byVerb verb Malformed (countVerbs s)
+countRequest verb s = byWord verb Malformed (countVerbs s)
 
 -- the verbs on texts, n bytes of the request before what stands behind each
 abbrev pub textVerbs : ℕ → List ℕ → List (String × Request)
@@ -153,7 +148,7 @@ textVerbs n s =
 
 -- what n bytes of a verb ask of the rest s
 abbrev pub verbRequest : List ℕ → ℕ → List ℕ → Request
-verbRequest verb n s = byVerb verb (countRequest verb s) (textVerbs n s)
+verbRequest verb n s = byWord verb (countRequest verb s) (textVerbs n s)
 
 -- what a request asks: nothing longer than 65,535 bytes is one
 unfoldable pub requestOf : List ℕ → Request

@@ -3,14 +3,15 @@ use mathlib.Core.Path.{_≡_, sym, _∙_}
 use Prim.Native.Nat.{ℕ}
 use lib.ListN.{drop}
 use borrow.Author.Needs.{needs}
-use Rattle.desk.specs.Requests.{byVerb, countVerbs, countRequest}
+use Rattle.desk.specs.Words.{byWord}
+use Rattle.desk.specs.Requests.{countVerbs, countRequest}
 use Rattle.desk.specs.declared.requests.Request.the-variants.{Malformed}
 use Rattle.desk.proofs.count.count_request.Statement.{statement}
 use Rattle.desk.proofs.count.count_request.Tie as tie
 
 -- the verb stands in none of the first n rows
 abbrev Past : ℕ → tie.Start → Type 0
-Past n k = countRequest (k .args .verb .now) (k .args .s .now) ≡ byVerb (k .args .verb .now) Malformed (drop n (countVerbs (k .args .s .now)))
+Past n k = countRequest (k .args .verb .now) (k .args .s .now) ≡ byWord (k .args .verb .now) Malformed (drop n (countVerbs (k .args .s .now)))
 
 past-1 : (k : tie.Else1) → Past 1 (k .before .before .before .before .before)
 unfolding countRequest

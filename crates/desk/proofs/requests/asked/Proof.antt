@@ -5,7 +5,8 @@ use native.Mathlib.Omega.{arith}
 use lib.ListN.{length, take, drop, length-take, length-drop}
 use borrow.Author.Needs.{needs}
 use borrow.Author.Tests.{lt-ltb, le-ltb}
-use Rattle.desk.specs.Requests.{byVerb, textVerbs, countRequest, requestOf}
+use Rattle.desk.specs.Words.{byWord}
+use Rattle.desk.specs.Requests.{textVerbs, countRequest, requestOf}
 use Rattle.desk.proofs.requests.asked.Statement.{statement}
 use Rattle.desk.proofs.requests.asked.Tie as tie
 
@@ -14,7 +15,7 @@ abbrev Past : ℕ → tie.After-word-length → Type 0
 Past n k =
     let s = k .before .before .before .args .request .now in
     let w = k .word-length .result in
-    requestOf s ≡ byVerb (take w s) (countRequest (take w s) (drop w s)) (drop n (textVerbs w (drop w s)))
+    requestOf s ≡ byWord (take w s) (countRequest (take w s) (drop w s)) (drop n (textVerbs w (drop w s)))
 
 past-1 : (k : tie.After-word-length) → Past 0 k
 unfolding requestOf
