@@ -7,6 +7,7 @@ use native.Mathlib.Omega.{arith}
 use lib.Dec.{ltb}
 use lib.IntN.{ℤ}
 use lib.ListN.{length, drop, length-drop}
+use borrow.Author.Tests.{ltb-false}
 use Rattle.printer.specs.declared.Precision.{Precision}
 use Rattle.desk.specs.declared.fields.Digits.{Digits}
 use Rattle.desk.specs.declared.fields.Digits.the-variants as Digits
@@ -14,7 +15,6 @@ use Rattle.desk.specs.declared.fields.Stamp.{Stamp}
 use Rattle.desk.specs.declared.fields.Stamp.the-variants as Stamp
 use Rattle.desk.specs.declared.requests.PrintFields.the-variants.{Got, Bad}
 use Rattle.desk.specs.Fields.{epochField, precisionField, stampField, onDigits, onStamp}
-use borrow.Author.Tests.{ltb-false}
 use Rattle.desk.specs.declared.requests.Request.{Request}
 use Rattle.desk.specs.declared.requests.Request.the-variants.{Malformed}
 use Rattle.desk.specs.Requests.{printFields, requestOf}

@@ -12,9 +12,9 @@ use mir.Syntax.{w64}
 use mir.Val.{SFits}
 use borrow.Author.Tests.{ltb-true}
 use Rattle.errors.specs.Refusals.{Refusal, refusal, Outcome, gives, refuses}
-use Rattle.counts.specs.Counts.{goodNanos}
 use Rattle.calendar.specs.Moments.{momentAt}
 use Rattle.calendar.proofs.Moments.{year-within}
+use Rattle.counts.specs.Counts.{goodNanos}
 use Rattle.printer.specs.declared.Precision.{Precision}
 use Rattle.printer.specs.Text.{text}
 use Rattle.printer.specs.Line.{answer, lineAfter}

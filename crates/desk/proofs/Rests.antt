@@ -7,11 +7,11 @@ use native.Mathlib.Omega.{arith}
 use lib.Dec.{eqb}
 use lib.IntN.{ℤ, pos, negsuc}
 use lib.ListN.{length, drop, length-drop}
-use Rattle.printer.specs.declared.Precision.{Precision}
 use Rattle.integers.proofs.Signed.{plus, minus}
 use Rattle.reader.specs.Numbers.{beginsWith}
 use Rattle.reader.specs.declared.numbers.Number.{Number}
 use Rattle.reader.specs.declared.numbers.Number.the-variants as Number
+use Rattle.printer.specs.declared.Precision.{Precision}
 use Rattle.desk.specs.Words.{wordLength}
 use Rattle.desk.specs.Numbers.{unsigned, above, below, signed, epoch, precision}
 use Rattle.desk.specs.declared.numbers.Signed.{Signed}

@@ -1,25 +1,23 @@
 -- `desk::answers::answer`: where there is room, the line is put in front, and its LF behind it (`put-front`).
+use mathlib.Core.Path.{sym, _∙_}
 use native.Mathlib.Omega.{arith}
-use Rattle.desk.proofs.Puts.{put-on, put-one, put-front}
-use borrow.Author.Tests.{lt-ltb, le-ltb}
-use Prim.Native.Nat.{_+_}
-use lib.ListN.{length}
-use Rattle.desk.specs.Answers.{answered}
 use borrow.Author.Needs.{needs}
+use Rattle.desk.proofs.Puts.{put-on, put-one, put-front}
+use Rattle.desk.proofs.Answered.{answered-front, answered-none}
 use Rattle.desk.proofs.answers.answer.Statement.{statement}
 use Rattle.desk.proofs.answers.answer.Tie as tie
 
 returns : tie.Need-returns
-unfolding answered
-returns c = (rw (lt-ltb (length (c .before .before .before .args .out .now)) (length (c .before .before .before .args .request .now) + 128) (omega arith)), omega arith)
+returns c = (sym (answered-none _ _ (omega arith)), omega arith)
 
 returns-2 : tie.Need-returns-2
-unfolding answered
-returns-2 c = (rw (lt-ltb (length (c .before .before .before .before .args .out .now)) (length (c .before .before .before .before .args .request .now) + 128) (omega arith)), omega arith)
+returns-2 c = (sym (answered-none _ _ (omega arith)), omega arith)
 
 returns-3 : tie.Need-returns-3
-unfolding answered
-returns-3 c = let k = put-on (c .before .before .put-answer .ensures .0) (put-one _ _ 10) in (rw (le-ltb (length (c .before .before .before .before .before .before .before .before .args .out .now)) (length (c .before .before .before .before .before .before .before .before .args .request .now) + 128) (omega arith)) (put-front k (omega (arith, k .place, c .before .before .put-answer .ensures .1))), omega (arith, c .before .before .put-answer .ensures .1))
+returns-3 c =
+    let p = c .before .before .put-answer .ensures in
+    let k = put-on (p .0) (put-one _ _ 10) in
+    (put-front k (omega (arith, k .place)) ∙ sym (answered-front _ _ (omega arith)), omega arith)
 
 pub answer-spec : {M : Type 1} → statement M
 answer-spec =

@@ -3,9 +3,9 @@ use mathlib.Core.Path.{ap, _∙_}
 use mir.Facts.{toZ-ofZ}
 use mir.Syntax.{w32, w64}
 use mir.Val.{SFits}
+use borrow.Author.Needs.{needs}
 use Rattle.desk.specs.Texts.{integer}
 use Rattle.desk.specs.Answers.{line, timeLine, durationLine, orderText}
-use borrow.Author.Needs.{needs}
 use Rattle.desk.proofs.answers.counted.Statement.{statement}
 use Rattle.desk.proofs.answers.counted.Tie as tie
 

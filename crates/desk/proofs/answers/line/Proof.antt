@@ -1,9 +1,9 @@
 -- `desk::answers::line`: the bytes of HEX, then the line of them.
-use mathlib.Core.Path.{sym, ap, _∙_}
+use mathlib.Core.Path.{sym, _∙_}
 use native.Mathlib.Omega.{arith}
-use lib.ListN.{length, length-take}
-use Rattle.desk.proofs.Hexes.{no-hex, hex-read}
+use lib.ListN.{length-take}
 use borrow.Author.Needs.{needs}
+use Rattle.desk.proofs.Hexes.{no-hex, hex-read}
 use Rattle.desk.proofs.answers.line.Statement.{statement}
 use Rattle.desk.proofs.answers.line.Tie as tie
 

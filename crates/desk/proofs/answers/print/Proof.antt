@@ -1,7 +1,7 @@
 -- `desk::answers::print`: the text is written behind three bytes, then `ok ` before it (`printed`, `refused`).
 use native.Mathlib.Omega.{arith}
-use Rattle.desk.proofs.Prints.{printed, refused}
 use borrow.Author.Needs.{needs}
+use Rattle.desk.proofs.Prints.{printed, refused}
 use Rattle.desk.proofs.answers.print.Statement.{statement}
 use Rattle.desk.proofs.answers.print.Tie as tie
 

@@ -1,8 +1,8 @@
 -- `desk::answers::print_in`: the pieces are put one behind the other (`put-on`).
 use native.Mathlib.Omega.{arith}
-use Rattle.desk.proofs.Puts.{put-on}
-use Rattle.desk.specs.Answers.{line}
 use borrow.Author.Needs.{needs}
+use Rattle.desk.specs.Answers.{line}
+use Rattle.desk.proofs.Puts.{put-on}
 use Rattle.desk.proofs.answers.print_in.Statement.{statement}
 use Rattle.desk.proofs.answers.print_in.Tie as tie
 

@@ -1,14 +1,14 @@
 -- `desk::answers::put_answer`: each request's own function writes its line.
 use mathlib.Core.Path.{_≡_, sym, ap, _∙_}
+use Prim.Native.Nat.{ℕ}
 use native.Mathlib.Omega.{arith}
 use lib.ListN.{length, length-drop}
 use mir.Facts.{toZ-ofZ}
 use mir.Syntax.{w64}
 use mir.Val.{SFits}
+use borrow.Author.Needs.{needs}
 use Rattle.desk.specs.Answers.{answerText}
 use Rattle.desk.proofs.Asks.{short-request}
-use Prim.Native.Nat.{ℕ}
-use borrow.Author.Needs.{needs}
 use Rattle.desk.proofs.answers.put_answer.Statement.{statement}
 use Rattle.desk.proofs.answers.put_answer.Tie as tie
 

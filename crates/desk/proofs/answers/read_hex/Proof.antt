@@ -1,9 +1,9 @@
 -- `desk::answers::read_hex`: the bytes of HEX, then the line of their reading.
-use mathlib.Core.Path.{sym, ap, _∙_}
+use mathlib.Core.Path.{sym, _∙_}
 use native.Mathlib.Omega.{arith}
-use lib.ListN.{length, length-take}
-use Rattle.desk.proofs.Hexes.{no-hex, hex-read}
+use lib.ListN.{length-take}
 use borrow.Author.Needs.{needs}
+use Rattle.desk.proofs.Hexes.{no-hex, hex-read}
 use Rattle.desk.proofs.answers.read_hex.Statement.{statement}
 use Rattle.desk.proofs.answers.read_hex.Tie as tie
 

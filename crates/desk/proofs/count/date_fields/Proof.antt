@@ -5,10 +5,10 @@ use lib.ListN.{length, length-drop}
 use mir.Facts.{toZ-ofZ}
 use mir.Syntax.{w32, w64}
 use mir.Val.{SFits}
+use borrow.Author.Needs.{needs}
+use Rattle.integers.proofs.Machine.{signed, known}
 use Rattle.desk.specs.Requests.{dateFields}
 use Rattle.desk.proofs.Rests.{whole-within, natural-within, whole-range}
-use Rattle.integers.proofs.Machine.{signed, known}
-use borrow.Author.Needs.{needs}
 use Rattle.desk.proofs.count.date_fields.Statement.{statement}
 use Rattle.desk.proofs.count.date_fields.Tie as tie
 

@@ -3,8 +3,8 @@ use mir.Facts.{toZ-ofZ}
 use mir.Syntax.{w64}
 use mir.Val.{SFits}
 use borrow.Author.Tests.{eq-eqb, ne-eqb}
-use Rattle.desk.specs.Requests.{newRequest}
 use borrow.Author.Needs.{needs}
+use Rattle.desk.specs.Requests.{newRequest}
 use Rattle.desk.proofs.count.new_request.Statement.{statement}
 use Rattle.desk.proofs.count.new_request.Tie as tie
 

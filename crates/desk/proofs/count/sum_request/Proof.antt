@@ -5,9 +5,9 @@ use mir.Facts.{toZ-ofZ}
 use mir.Syntax.{w64}
 use mir.Val.{SFits}
 use borrow.Author.Tests.{eq-eqb, ne-eqb}
+use borrow.Author.Needs.{needs}
 use Rattle.desk.specs.Requests.{sumRequest}
 use Rattle.desk.proofs.Rests.{natural-within}
-use borrow.Author.Needs.{needs}
 use Rattle.desk.proofs.count.sum_request.Statement.{statement}
 use Rattle.desk.proofs.count.sum_request.Tie as tie
 

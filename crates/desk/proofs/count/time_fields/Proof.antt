@@ -2,9 +2,9 @@
 use mathlib.Core.Path.{sym, ap, _∙_}
 use native.Mathlib.Omega.{arith}
 use lib.ListN.{length, length-drop}
+use borrow.Author.Needs.{needs}
 use Rattle.desk.specs.Requests.{timeFields}
 use Rattle.desk.proofs.Rests.{natural-within}
-use borrow.Author.Needs.{needs}
 use Rattle.desk.proofs.count.time_fields.Statement.{statement}
 use Rattle.desk.proofs.count.time_fields.Tie as tie
 

@@ -3,8 +3,8 @@ use mir.Facts.{toZ-ofZ}
 use mir.Syntax.{w64}
 use mir.Val.{SFits}
 use borrow.Author.Tests.{eq-eqb, ne-eqb}
-use Rattle.desk.specs.Requests.{unixRequest}
 use borrow.Author.Needs.{needs}
+use Rattle.desk.specs.Requests.{unixRequest}
 use Rattle.desk.proofs.count.unix_request.Statement.{statement}
 use Rattle.desk.proofs.count.unix_request.Tie as tie
 

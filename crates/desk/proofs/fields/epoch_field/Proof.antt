@@ -1,11 +1,11 @@
 -- `desk::fields::epoch_field`.
-use mir.Val.{SFits}
-use Rattle.desk.specs.declared.fields.Whole.the-variants as Whole
 use mathlib.Core.Path.{ap, _∙_}
+use mir.Val.{SFits}
 use mir.Facts.{toZ-ofZ}
 use mir.Syntax.{w64}
-use Rattle.desk.specs.Fields.{epochField}
 use borrow.Author.Needs.{needs}
+use Rattle.desk.specs.declared.fields.Whole.the-variants as Whole
+use Rattle.desk.specs.Fields.{epochField}
 use Rattle.desk.proofs.fields.epoch_field.Statement.{statement}
 use Rattle.desk.proofs.fields.epoch_field.Tie as tie
 

@@ -2,8 +2,8 @@
 use mathlib.Core.Path.{sym, ap, _∙_}
 use native.Mathlib.Omega.{arith}
 use lib.ListN.{length, length-drop}
-use Rattle.desk.proofs.Splits.{field-blank, field-none, blank-length}
 use borrow.Author.Needs.{needs}
+use Rattle.desk.proofs.Splits.{field-blank, field-none, blank-length}
 use Rattle.desk.proofs.fields.field_length.Statement.{statement}
 use Rattle.desk.proofs.fields.field_length.Tie as tie
 

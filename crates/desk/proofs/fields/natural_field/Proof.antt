@@ -1,6 +1,6 @@
 -- `desk::fields::natural_field`.
-use Rattle.desk.specs.Fields.{naturalField}
 use borrow.Author.Needs.{needs}
+use Rattle.desk.specs.Fields.{naturalField}
 use Rattle.desk.proofs.fields.natural_field.Statement.{statement}
 use Rattle.desk.proofs.fields.natural_field.Tie as tie
 

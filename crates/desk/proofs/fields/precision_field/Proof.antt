@@ -1,6 +1,6 @@
 -- `desk::fields::precision_field`.
-use Rattle.desk.specs.Fields.{precisionField}
 use borrow.Author.Needs.{needs}
+use Rattle.desk.specs.Fields.{precisionField}
 use Rattle.desk.proofs.fields.precision_field.Statement.{statement}
 use Rattle.desk.proofs.fields.precision_field.Tie as tie
 

@@ -6,10 +6,10 @@ use lib.ListN.{length, length-drop}
 use mir.Facts.{toZ-ofZ}
 use mir.Syntax.{w64}
 use mir.Val.{SFits}
+use borrow.Author.Needs.{needs}
 use Rattle.desk.specs.declared.fields.Stamp.the-variants as Stamp
 use Rattle.desk.specs.Fields.{stampField}
 use Rattle.desk.proofs.Rests.{whole-within, natural-within}
-use borrow.Author.Needs.{needs}
 use Rattle.desk.proofs.fields.stamp_field.Statement.{statement}
 use Rattle.desk.proofs.fields.stamp_field.Tie as tie
 

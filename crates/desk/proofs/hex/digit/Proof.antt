@@ -1,7 +1,7 @@
 -- `desk::hex::digit`.
 use borrow.Author.Tests.{lt-ltb, le-ltb}
-use Rattle.desk.specs.Hex.{digitOf}
 use borrow.Author.Needs.{needs}
+use Rattle.desk.specs.Hex.{digitOf}
 use Rattle.desk.proofs.hex.digit.Statement.{statement}
 use Rattle.desk.proofs.hex.digit.Tie as tie
 

@@ -1,8 +1,8 @@
 -- `desk::hex::digit_value`: each test is one of the definition's.
 use native.Mathlib.Omega.{arith}
 use borrow.Author.Tests.{lt-leb, le-leb}
-use Rattle.desk.specs.Hex.{digitValue}
 use borrow.Author.Needs.{needs}
+use Rattle.desk.specs.Hex.{digitValue}
 use Rattle.desk.proofs.hex.digit_value.Statement.{statement}
 use Rattle.desk.proofs.hex.digit_value.Tie as tie
 

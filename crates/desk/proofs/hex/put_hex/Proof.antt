@@ -1,10 +1,10 @@
 -- `desk::hex::put_hex`. The invariant: the pairs of the bytes that are left are still to be written; the measure: the bytes left.
-use borrow.Author.Needs.{needs}
 use mathlib.Core.Path.{_≡_, sym, _∙_, refl}
 use Prim.Native.Nat.{_+_, _-_, _*_, _<_, _≤_}
 use native.Mathlib.Omega.{arith}
 use lib.ListN.{length, drop, length-set}
 use lib.Seq.{sets}
+use borrow.Author.Needs.{needs}
 use Rattle.desk.specs.Hex.{digitPairs}
 use Rattle.desk.proofs.Hexes.{no-bytes, some-bytes, pairs-next, pairs-done, pairs-length}
 use Rattle.desk.proofs.hex.put_hex.Statement.{statement}

@@ -7,10 +7,10 @@ use native.Mathlib.Omega.{arith}
 use native.Mathlib.Numerals.{add-one}
 use lib.ListN.{length, take, drop, length-set, length-take}
 use lib.Seq.{take-suc-set}
+use borrow.Author.Needs.{needs}
 use Rattle.desk.specs.Words.{bytes as bytesOf, alike}
 use Rattle.desk.specs.Hex.{inPairs, pairs}
 use Rattle.desk.proofs.Hexes.{hex-more, bad-high, bad-low, pairs-more, odd, even, none, empty, ill, well, never}
-use borrow.Author.Needs.{needs}
 use Rattle.desk.proofs.hex.unhex.Statement.{statement}
 use Rattle.desk.proofs.hex.unhex.Tie as tie
 

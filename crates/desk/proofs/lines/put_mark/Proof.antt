@@ -1,7 +1,7 @@
 -- `desk::lines::put_mark`.
 use native.Mathlib.Omega.{arith}
-use Rattle.desk.proofs.Puts.{put-none}
 use borrow.Author.Needs.{needs}
+use Rattle.desk.proofs.Puts.{put-none}
 use Rattle.desk.proofs.lines.put_mark.Statement.{statement}
 use Rattle.desk.proofs.lines.put_mark.Tie as tie
 

@@ -1,11 +1,11 @@
 -- `desk::lines::put_name`: the number's row of `names`, or none.
-use Rattle.desk.proofs.Puts.{past, put-none}
-use Prim.Native.Nat.{_≤_}
 use mathlib.Core.List.{[]}
+use Prim.Native.Nat.{_≤_}
 use native.Mathlib.Omega.{arith}
-use Rattle.desk.specs.Texts.{names}
 use lib.ListN.{List·getD-eq-default}
 use borrow.Author.Needs.{needs}
+use Rattle.desk.specs.Texts.{names}
+use Rattle.desk.proofs.Puts.{past, put-none}
 use Rattle.desk.proofs.lines.put_name.Statement.{statement}
 use Rattle.desk.proofs.lines.put_name.Tie as tie
 

@@ -1,10 +1,10 @@
 -- `desk::lines::put_refusal`: the pieces are put one behind the other (`put-on`).
 use native.Mathlib.Omega.{arith}
-use Rattle.desk.proofs.Puts.{put-on, put-none}
+use borrow.Author.Needs.{needs}
 use Rattle.desk.specs.Texts.{integer}
 use Rattle.desk.specs.Answers.{refusalText}
 use Rattle.desk.specs.Said.{refusedText}
-use borrow.Author.Needs.{needs}
+use Rattle.desk.proofs.Puts.{put-on, put-none}
 use Rattle.desk.proofs.lines.put_refusal.Statement.{statement}
 use Rattle.desk.proofs.lines.put_refusal.Tie as tie
 

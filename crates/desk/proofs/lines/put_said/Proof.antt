@@ -1,11 +1,11 @@
 -- `desk::lines::put_said`: the pieces are put one behind the other (`put-on`).
 use native.Mathlib.Omega.{arith}
-use Rattle.desk.proofs.Puts.{put-on}
-use Rattle.desk.specs.Answers.{line}
 use mir.Facts.{toZ-ofZ}
 use mir.Syntax.{w64}
 use mir.Val.{SFits}
 use borrow.Author.Needs.{needs}
+use Rattle.desk.specs.Answers.{line}
+use Rattle.desk.proofs.Puts.{put-on}
 use Rattle.desk.proofs.lines.put_said.Statement.{statement}
 use Rattle.desk.proofs.lines.put_said.Tie as tie
 

@@ -1,6 +1,6 @@
 -- `desk::numbers::parse_precision`.
-use Rattle.desk.specs.Numbers.{precision}
 use borrow.Author.Needs.{needs}
+use Rattle.desk.specs.Numbers.{precision}
 use Rattle.desk.proofs.numbers.parse_precision.Statement.{statement}
 use Rattle.desk.proofs.numbers.parse_precision.Tie as tie
 

@@ -5,11 +5,11 @@ use native.Mathlib.Omega.{arith}
 use lib.IntN.{pos, negsuc, _-ℤ_}
 use mir.Syntax.{w64}
 use mir.Val.{toZ, ofZ}
+use borrow.Author.Needs.{needs}
 use Rattle.integers.proofs.Machine.{signed as lawsOfSigned, known}
 use Rattle.desk.specs.Numbers.{signed}
 use Rattle.desk.specs.declared.numbers.Signed.the-variants as Signed
 use Rattle.desk.proofs.Decimal.{unsigned-small, below-value}
-use borrow.Author.Needs.{needs}
 use Rattle.desk.proofs.numbers.parse_signed.Statement.{statement}
 use Rattle.desk.proofs.numbers.parse_signed.Tie as tie
 

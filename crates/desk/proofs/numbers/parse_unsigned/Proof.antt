@@ -1,12 +1,12 @@
 -- `desk::numbers::parse_unsigned`.
-use Rattle.reader.specs.Numbers.{beginsWith}
-use lib.ListN.{length}
 use mathlib.Core.Bool.{false, and-false}
 use mathlib.Core.Path.{_≡_, sym, _∙_}
 use mathlib.Core.Logic.{⊎-elim}
+use lib.ListN.{length}
 use borrow.Author.Tests.{le-ltb}
-use Rattle.desk.proofs.Decimal.{no-plus, needless, as-read}
 use borrow.Author.Needs.{needs}
+use Rattle.reader.specs.Numbers.{beginsWith}
+use Rattle.desk.proofs.Decimal.{no-plus, needless, as-read}
 use Rattle.desk.proofs.numbers.parse_unsigned.Statement.{statement}
 use Rattle.desk.proofs.numbers.parse_unsigned.Tie as tie
 

@@ -6,10 +6,10 @@ use mir.Facts.{toZ-ofZ}
 use mir.Syntax.{w64}
 use mir.Val.{SFits}
 use borrow.Author.Tests.{not-true, not-false}
+use borrow.Author.Needs.{needs}
 use Rattle.desk.specs.Requests.{lineRequest}
 use Rattle.desk.proofs.Rests.{natural-within}
 use Rattle.desk.proofs.Asks.{print-within}
-use borrow.Author.Needs.{needs}
 use Rattle.desk.proofs.requests.line_request.Statement.{statement}
 use Rattle.desk.proofs.requests.line_request.Tie as tie
 

@@ -5,9 +5,9 @@ use lib.ListN.{length, length-drop}
 use mir.Facts.{toZ-ofZ}
 use mir.Syntax.{w64}
 use mir.Val.{SFits}
+use borrow.Author.Needs.{needs}
 use Rattle.desk.specs.Requests.{printFields}
 use Rattle.desk.proofs.Rests.{epoch-within, stamp-within, digits-within}
-use borrow.Author.Needs.{needs}
 use Rattle.desk.proofs.requests.print_fields.Statement.{statement}
 use Rattle.desk.proofs.requests.print_fields.Tie as tie
 

@@ -3,8 +3,8 @@ use mir.Facts.{toZ-ofZ}
 use mir.Syntax.{w64}
 use mir.Val.{SFits}
 use borrow.Author.Tests.{eq-eqb, ne-eqb}
-use Rattle.desk.specs.Requests.{printRequest}
 use borrow.Author.Needs.{needs}
+use Rattle.desk.specs.Requests.{printRequest}
 use Rattle.desk.proofs.requests.print_request.Statement.{statement}
 use Rattle.desk.proofs.requests.print_request.Tie as tie
 

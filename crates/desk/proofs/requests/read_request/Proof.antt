@@ -5,9 +5,9 @@ use mir.Facts.{toZ-ofZ}
 use mir.Syntax.{w64}
 use mir.Val.{SFits}
 use borrow.Author.Tests.{not-true, not-false}
+use borrow.Author.Needs.{needs}
 use Rattle.desk.specs.Requests.{readRequest}
 use Rattle.desk.proofs.Rests.{epoch-within}
-use borrow.Author.Needs.{needs}
 use Rattle.desk.proofs.requests.read_request.Statement.{statement}
 use Rattle.desk.proofs.requests.read_request.Tie as tie
 

@@ -1,6 +1,6 @@
 -- `desk::said::duration`.
-use Rattle.desk.specs.Answers.{line}
 use borrow.Author.Needs.{needs}
+use Rattle.desk.specs.Answers.{line}
 use Rattle.desk.proofs.said.duration.Statement.{statement}
 use Rattle.desk.proofs.said.duration.Tie as tie
 

@@ -1,6 +1,6 @@
 -- `desk::said::of_date_time`.
-use Rattle.desk.specs.Said.{refusedText}
 use borrow.Author.Needs.{needs}
+use Rattle.desk.specs.Said.{refusedText}
 use Rattle.desk.proofs.said.of_date_time.Statement.{statement}
 use Rattle.desk.proofs.said.of_date_time.Tie as tie
 

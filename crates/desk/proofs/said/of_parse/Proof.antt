@@ -1,6 +1,6 @@
 -- `desk::said::of_parse`.
-use Rattle.desk.specs.Answers.{line}
 use borrow.Author.Needs.{needs}
+use Rattle.desk.specs.Answers.{line}
 use Rattle.desk.proofs.said.of_parse.Statement.{statement}
 use Rattle.desk.proofs.said.of_parse.Tie as tie
 

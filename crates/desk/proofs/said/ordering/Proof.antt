@@ -1,6 +1,6 @@
 -- `desk::said::ordering`.
-use Rattle.desk.specs.Answers.{line}
 use borrow.Author.Needs.{needs}
+use Rattle.desk.specs.Answers.{line}
 use Rattle.desk.proofs.said.ordering.Statement.{statement}
 use Rattle.desk.proofs.said.ordering.Tie as tie
 

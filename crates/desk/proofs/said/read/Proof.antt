@@ -3,9 +3,9 @@ use mathlib.Core.Path.{ap, _∙_}
 use mir.Facts.{toZ-ofZ}
 use mir.Syntax.{w64}
 use mir.Val.{SFits}
+use borrow.Author.Needs.{needs}
 use Rattle.errors.specs.Refusals.{gives}
 use Rattle.desk.specs.Answers.{line, timeLine}
-use borrow.Author.Needs.{needs}
 use Rattle.desk.proofs.said.read.Statement.{statement}
 use Rattle.desk.proofs.said.read.Tie as tie
 

@@ -3,10 +3,10 @@ use mathlib.Core.Path.{ap, _∙_}
 use mir.Facts.{toZ-ofZ}
 use mir.Syntax.{w64}
 use mir.Val.{SFits}
+use borrow.Author.Needs.{needs}
 use Rattle.errors.specs.Refusals.{gives}
 use Rattle.desk.specs.Texts.{integer}
 use Rattle.desk.specs.Answers.{line}
-use borrow.Author.Needs.{needs}
 use Rattle.desk.proofs.said.unix.Statement.{statement}
 use Rattle.desk.proofs.said.unix.Tie as tie
 

@@ -2,8 +2,8 @@
 use mathlib.Core.Path.{_∙_}
 use native.Mathlib.Omega.{arith}
 use lib.ListN.{length-set}
-use Rattle.desk.proofs.Puts.{put-on, put-one}
 use borrow.Author.Needs.{needs}
+use Rattle.desk.proofs.Puts.{put-on, put-one}
 use Rattle.desk.proofs.texts.put_behind_blank.Statement.{statement}
 use Rattle.desk.proofs.texts.put_behind_blank.Tie as tie
 

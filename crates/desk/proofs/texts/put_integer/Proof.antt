@@ -1,18 +1,18 @@
 -- `desk::texts::put_integer`: the sign is tested on the machine's bits.
 use mathlib.Core.List.{_∷_}
+use mathlib.Core.Path.{_≡_, sym, ap, _∙_}
 use Prim.Native.Nat.{_+_, min}
 use native.Mathlib.Numerals.{add-one}
-use lib.IntN.{negsuc, natAbs, _-ℤ_}
-use Rattle.integers.proofs.Signed.{plus, minus, apart, size-law}
-use Rattle.integers.proofs.Machine.{signed, Known, known, natural as atLeastZero}
-use mathlib.Core.Path.{_≡_, sym, ap, _∙_}
 use native.Mathlib.Omega.{arith}
+use lib.IntN.{negsuc, natAbs, _-ℤ_}
 use lib.ListN.{length-set}
 use mir.Syntax.{w64}
 use mir.Val.{toZ, ofZ}
+use borrow.Author.Needs.{needs}
+use Rattle.integers.proofs.Signed.{plus, minus, apart, size-law}
+use Rattle.integers.proofs.Machine.{signed, Known, known, natural as atLeastZero}
 use Rattle.desk.specs.Texts.{integer, natural}
 use Rattle.desk.proofs.Puts.{put-on, put-one}
-use borrow.Author.Needs.{needs}
 use Rattle.desk.proofs.texts.put_integer.Statement.{statement}
 use Rattle.desk.proofs.texts.put_integer.Tie as tie
 

@@ -1,10 +1,10 @@
 -- `desk::texts::put_natural`. The invariant: the first digits are still to be written, those of m; the measure: how many they are.
-use borrow.Author.Needs.{needs}
 use mathlib.Core.Path.{_≡_, sym, _∙_, refl}
 use Prim.Native.Nat.{_≤_}
 use native.Mathlib.Omega.{arith}
 use lib.ListN.{length, length-set}
 use lib.Seq.{sets}
+use borrow.Author.Needs.{needs}
 use Rattle.printer.specs.Text.{digits}
 use Rattle.printer.proofs.Decimal.{last-first, digits-length}
 use Rattle.desk.specs.Texts.{natural}
