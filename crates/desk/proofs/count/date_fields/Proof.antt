@@ -1,5 +1,6 @@
 -- `desk::count::date_fields`.
 use mathlib.Core.Path.{sym, ap, _∙_}
+use Prim.Native.Nat.{_+_, _≤_}
 use native.Mathlib.Omega.{arith}
 use lib.ListN.{length, length-drop}
 use mir.Facts.{toZ-ofZ}
@@ -11,6 +12,23 @@ use Rattle.desk.specs.Requests.{dateFields}
 use Rattle.desk.proofs.Rests.{whole-within, natural-within, whole-range}
 use Rattle.desk.proofs.count.date_fields.Statement.{statement}
 use Rattle.desk.proofs.count.date_fields.Tie as tie
+
+-- the three fields stand in s
+within : (k : tie.After-day) →
+    let month = k .before .before .before .before .before in
+    let year = month .before .before .before .before .before in
+    year .year .given .0 .1 .0 + month .month .given .0 .1 .0 + k .day .given .0 .1 .0 ≤ length (year .before .before .before .before .args .s .now)
+within k =
+    let month = k .before .before .before .before .before in
+    let year = month .before .before .before .before .before in
+    let a = simp length-drop at (ap length (month .before .before .before .skip .ensures)) in
+    let b = simp length-drop at (ap length (k .before .before .before .skip2 .ensures)) in
+    omega (
+      arith,
+      whole-within _ _ (sym (year .before .before .whole-field .ensures) ∙ year .year .given .1),
+      natural-within _ _ (sym (month .before .before .natural-field .ensures) ∙ month .month .given .1),
+      natural-within _ _ (sym (k .before .before .natural-field2 .ensures) ∙ k .day .given .1),
+    )
 
 returns : tie.Need-returns
 unfolding dateFields
@@ -34,10 +52,10 @@ cast-t15 : tie.Need-cast-t15
 cast-t15 c = omega (arith, natural-within _ _ (sym (c .before .before .before .natural-field2 .ensures) ∙ c .before .day .given .1))
 
 add-t16 : tie.Need-add-t16
-add-t16 c = let k0 = simp length-drop at (ap length (c .before .before .before .before .before .before .before .before .before .skip .ensures)) in let k1 = simp length-drop at (ap length (c .before .before .before .before .skip2 .ensures)) in omega (arith, whole-within _ _ (sym (c .before .before .before .before .before .before .before .before .before .before .before .before .before .whole-field .ensures) ∙ c .before .before .before .before .before .before .before .before .before .before .before .year .given .1), natural-within _ _ (sym (c .before .before .before .before .before .before .before .before .natural-field .ensures) ∙ c .before .before .before .before .before .before .month .given .1), natural-within _ _ (sym (c .before .before .before .natural-field2 .ensures) ∙ c .before .day .given .1))
+add-t16 c = omega (arith, within (search))
 
 add-t17 : tie.Need-add-t17
-add-t17 c = let k0 = simp length-drop at (ap length (c .before .before .before .before .before .before .before .before .before .skip .ensures)) in let k1 = simp length-drop at (ap length (c .before .before .before .before .skip2 .ensures)) in omega (arith, whole-within _ _ (sym (c .before .before .before .before .before .before .before .before .before .before .before .before .before .whole-field .ensures) ∙ c .before .before .before .before .before .before .before .before .before .before .before .year .given .1), natural-within _ _ (sym (c .before .before .before .before .before .before .before .before .natural-field .ensures) ∙ c .before .before .before .before .before .before .month .given .1), natural-within _ _ (sym (c .before .before .before .natural-field2 .ensures) ∙ c .before .day .given .1))
+add-t17 c = omega (arith, within (search))
 
 returns-4 : tie.Need-returns-4
 unfolding dateFields

@@ -1,5 +1,6 @@
 -- `desk::count::time_fields`.
 use mathlib.Core.Path.{sym, ap, _∙_}
+use Prim.Native.Nat.{_+_, _≤_}
 use native.Mathlib.Omega.{arith}
 use lib.ListN.{length, length-drop}
 use borrow.Author.Needs.{needs}
@@ -7,6 +8,27 @@ use Rattle.desk.specs.Requests.{timeFields}
 use Rattle.desk.proofs.Rests.{natural-within}
 use Rattle.desk.proofs.count.time_fields.Statement.{statement}
 use Rattle.desk.proofs.count.time_fields.Tie as tie
+
+-- the four fields stand in s
+within : (k : tie.After-nano) →
+    let sec = k .before .before .before .before .before in
+    let min = sec .before .before .before .before .before in
+    let hour = min .before .before .before .before .before in
+    hour .hour .given .0 .1 .0 + min .min .given .0 .1 .0 + sec .sec .given .0 .1 .0 + k .nano .given .0 .1 .0 ≤ length (hour .before .before .before .before .args .s .now)
+within k =
+    let sec = k .before .before .before .before .before in
+    let min = sec .before .before .before .before .before in
+    let hour = min .before .before .before .before .before in
+    let a = simp length-drop at (ap length (min .before .before .before .skip .ensures)) in
+    let b = simp length-drop at (ap length (sec .before .before .before .skip2 .ensures)) in
+    let d = simp length-drop at (ap length (k .before .before .before .skip3 .ensures)) in
+    omega (
+      arith,
+      natural-within _ _ (sym (hour .before .before .natural-field .ensures) ∙ hour .hour .given .1),
+      natural-within _ _ (sym (min .before .before .natural-field2 .ensures) ∙ min .min .given .1),
+      natural-within _ _ (sym (sec .before .before .natural-field3 .ensures) ∙ sec .sec .given .1),
+      natural-within _ _ (sym (k .before .before .natural-field4 .ensures) ∙ k .nano .given .1),
+    )
 
 returns : tie.Need-returns
 unfolding timeFields
@@ -37,13 +59,13 @@ cast-t20 : tie.Need-cast-t20
 cast-t20 c = omega (arith, natural-within _ _ (sym (c .before .before .before .natural-field4 .ensures) ∙ c .before .nano .given .1))
 
 add-t21 : tie.Need-add-t21
-add-t21 c = let k0 = simp length-drop at (ap length (c .before .before .before .before .before .before .before .before .before .before .before .before .before .before .skip .ensures)) in let k1 = simp length-drop at (ap length (c .before .before .before .before .before .before .before .before .before .skip2 .ensures)) in let k2 = simp length-drop at (ap length (c .before .before .before .before .skip3 .ensures)) in omega (arith, natural-within _ _ (sym (c .before .before .before .before .before .before .before .before .before .before .before .before .before .before .before .before .before .before .natural-field .ensures) ∙ c .before .before .before .before .before .before .before .before .before .before .before .before .before .before .before .before .hour .given .1), natural-within _ _ (sym (c .before .before .before .before .before .before .before .before .before .before .before .before .before .natural-field2 .ensures) ∙ c .before .before .before .before .before .before .before .before .before .before .before .min .given .1), natural-within _ _ (sym (c .before .before .before .before .before .before .before .before .natural-field3 .ensures) ∙ c .before .before .before .before .before .before .sec .given .1), natural-within _ _ (sym (c .before .before .before .natural-field4 .ensures) ∙ c .before .nano .given .1))
+add-t21 c = omega (arith, within (search))
 
 add-t22 : tie.Need-add-t22
-add-t22 c = let k0 = simp length-drop at (ap length (c .before .before .before .before .before .before .before .before .before .before .before .before .before .before .skip .ensures)) in let k1 = simp length-drop at (ap length (c .before .before .before .before .before .before .before .before .before .skip2 .ensures)) in let k2 = simp length-drop at (ap length (c .before .before .before .before .skip3 .ensures)) in omega (arith, natural-within _ _ (sym (c .before .before .before .before .before .before .before .before .before .before .before .before .before .before .before .before .before .before .natural-field .ensures) ∙ c .before .before .before .before .before .before .before .before .before .before .before .before .before .before .before .before .hour .given .1), natural-within _ _ (sym (c .before .before .before .before .before .before .before .before .before .before .before .before .before .natural-field2 .ensures) ∙ c .before .before .before .before .before .before .before .before .before .before .before .min .given .1), natural-within _ _ (sym (c .before .before .before .before .before .before .before .before .natural-field3 .ensures) ∙ c .before .before .before .before .before .before .sec .given .1), natural-within _ _ (sym (c .before .before .before .natural-field4 .ensures) ∙ c .before .nano .given .1))
+add-t22 c = omega (arith, within (search))
 
 add-t23 : tie.Need-add-t23
-add-t23 c = let k0 = simp length-drop at (ap length (c .before .before .before .before .before .before .before .before .before .before .before .before .before .before .skip .ensures)) in let k1 = simp length-drop at (ap length (c .before .before .before .before .before .before .before .before .before .skip2 .ensures)) in let k2 = simp length-drop at (ap length (c .before .before .before .before .skip3 .ensures)) in omega (arith, natural-within _ _ (sym (c .before .before .before .before .before .before .before .before .before .before .before .before .before .before .before .before .before .before .natural-field .ensures) ∙ c .before .before .before .before .before .before .before .before .before .before .before .before .before .before .before .before .hour .given .1), natural-within _ _ (sym (c .before .before .before .before .before .before .before .before .before .before .before .before .before .natural-field2 .ensures) ∙ c .before .before .before .before .before .before .before .before .before .before .before .min .given .1), natural-within _ _ (sym (c .before .before .before .before .before .before .before .before .natural-field3 .ensures) ∙ c .before .before .before .before .before .before .sec .given .1), natural-within _ _ (sym (c .before .before .before .natural-field4 .ensures) ∙ c .before .nano .given .1))
+add-t23 c = omega (arith, within (search))
 
 returns-5 : tie.Need-returns-5
 unfolding timeFields

@@ -1,5 +1,6 @@
 -- `desk::requests::line_request`.
 use mathlib.Core.Path.{sym, ap, _∙_}
+use Prim.Native.Nat.{_+_, _≤_}
 use native.Mathlib.Omega.{arith}
 use lib.ListN.{length, length-drop}
 use mir.Facts.{toZ-ofZ}
@@ -12,6 +13,19 @@ use Rattle.desk.proofs.Rests.{natural-within}
 use Rattle.desk.proofs.Asks.{print-within}
 use Rattle.desk.proofs.requests.line_request.Statement.{statement}
 use Rattle.desk.proofs.requests.line_request.Tie as tie
+
+-- what is printed and the place stand in s
+within : (k : tie.After-at) →
+    let print = k .before .before .before .before .before in
+    print .epoch .given .0 .1 .1 .1 .1 .0 + k .at .given .0 .1 .0 ≤ length (print .before .before .before .before .args .s .now)
+within k =
+    let print = k .before .before .before .before .before in
+    let a = simp length-drop at (ap length (k .before .before .before .skip .ensures)) in
+    omega (
+      arith,
+      print-within _ (sym (print .before .before .print-fields .ensures) ∙ print .epoch .given .1),
+      natural-within _ _ (sym (k .before .before .natural-field .ensures) ∙ k .at .given .1),
+    )
 
 returns : tie.Need-returns
 unfolding lineRequest
@@ -26,13 +40,13 @@ unfolding lineRequest
 returns-3 c = rw (← c .before .before .before .before .before .before .before .before .before .before .before .print-fields .ensures, c .before .before .before .before .before .before .before .before .before .epoch .given .1, ← c .before .before .before .before .before .before .before .skip .ensures, ← c .before .before .before .before .before .before .natural-field .ensures, c .before .before .before .before .at .given .1, ← c .before .before .skip2 .ensures, ← c .before .begins-with .ensures, not-true (c .before .begins-with .result) (c .if1 .taken))
 
 add-t17 : tie.Need-add-t17
-add-t17 c = let k0 = simp length-drop at (ap length (c .before .before .before .before .before .before .before .skip .ensures)) in omega (arith, print-within _ (sym (c .before .before .before .before .before .before .before .before .before .before .before .print-fields .ensures) ∙ c .before .before .before .before .before .before .before .before .before .epoch .given .1), natural-within _ _ (sym (c .before .before .before .before .before .before .natural-field .ensures) ∙ c .before .before .before .before .at .given .1))
+add-t17 c = omega (arith, within (search))
 
 add-t18 : tie.Need-add-t18
-add-t18 c = let k0 = simp length-drop at (ap length (c .before .before .before .before .before .before .before .skip .ensures)) in omega (arith, print-within _ (sym (c .before .before .before .before .before .before .before .before .before .before .before .print-fields .ensures) ∙ c .before .before .before .before .before .before .before .before .before .epoch .given .1), natural-within _ _ (sym (c .before .before .before .before .before .before .natural-field .ensures) ∙ c .before .before .before .before .at .given .1))
+add-t18 c = omega (arith, within (search))
 
 add-t19 : tie.Need-add-t19
-add-t19 c = let k0 = simp length-drop at (ap length (c .before .before .before .before .before .before .before .skip .ensures)) in omega (arith, print-within _ (sym (c .before .before .before .before .before .before .before .before .before .before .before .print-fields .ensures) ∙ c .before .before .before .before .before .before .before .before .before .epoch .given .1), natural-within _ _ (sym (c .before .before .before .before .before .before .natural-field .ensures) ∙ c .before .before .before .before .at .given .1))
+add-t19 c = omega (arith, within (search))
 
 returns-4 : tie.Need-returns-4
 unfolding lineRequest
