@@ -1,9 +1,14 @@
 -- `desk::count::unix_request`.
+use mathlib.Core.Bool.{cond}
+use mathlib.Core.Path.{_≡_}
+use lib.IntN.{ℤ}
 use mir.Facts.{toZ-ofZ}
 use mir.Syntax.{w64}
-use mir.Val.{SFits}
+use mir.Val.{SFits, toZ, ofZ}
 use borrow.Author.Tests.{eq-eqb, ne-eqb}
 use borrow.Author.Needs.{needs}
+use Rattle.desk.specs.declared.count.Count.the-variants.{Unix, ToUnix}
+use Rattle.desk.specs.declared.requests.Request.the-variants.{Counts}
 use Rattle.desk.specs.Requests.{unixRequest}
 use Rattle.desk.proofs.count.unix_request.Statement.{statement}
 use Rattle.desk.proofs.count.unix_request.Tie as tie
@@ -24,13 +29,33 @@ returns-4 : tie.Need-returns-4
 unfolding unixRequest
 returns-4 c = rw (← c .before .before .before .before .before .before .before .before .before .before .before .before .before .before .epoch-field .ensures, c .before .before .before .before .before .before .before .before .before .before .before .before .epoch .given .1, ← c .before .before .before .before .before .before .before .before .before .before .skip .ensures, ← c .before .before .before .before .before .before .before .before .before .stamp-field .ensures, c .before .before .before .before .before .before .before .secs .given .1, ← c .before .before .before .before .before .skip2 .ensures, ← c .before .before .before .before .whole-field .ensures, c .before .before .leap .given .1, ne-eqb _ _ (c .if1 .taken))
 
-returns-5 : tie.Need-returns-5
+-- a number as the machine has it
+abbrev kept : ℤ → ℤ
+kept v = toZ w64 (ofZ w64 v)
+
+-- every field was read, and nothing is left
+chain : (k : tie.Else1) →
+    let leap = k .before .before in
+    let stamp = leap .before .before .before .before .before in
+    let epoch = stamp .before .before .before .before .before in
+    let a = epoch .before .before .before .before .args in
+    let e = kept (epoch .epoch .given .0 .0) in
+    let s = kept (stamp .secs .given .0 .0) in
+    let n = stamp .secs .given .0 .1 .0 in
+    let l = kept (leap .leap .given .0 .0) in
+    unixRequest (a .back) (a .s .now) ≡ cond (a .back) (Counts (ToUnix e s n l)) (Counts (Unix e s n l))
 unfolding unixRequest
-returns-5 c = let f0 : SFits w64 (c .before .before .before .before .before .before .before .before .before .before .before .before .before .epoch .given .0 .0) = search needs in let f1 : SFits w64 (c .before .before .before .before .before .before .before .before .secs .given .0 .0) = search needs in let f2 : SFits w64 (c .before .before .before .leap .given .0 .0) = search needs in rw (toZ-ofZ {w = w64} f0, toZ-ofZ {w = w64} f1, toZ-ofZ {w = w64} f2, ← c .before .before .before .before .before .before .before .before .before .before .before .before .before .before .before .epoch-field .ensures, c .before .before .before .before .before .before .before .before .before .before .before .before .before .epoch .given .1, ← c .before .before .before .before .before .before .before .before .before .before .before .skip .ensures, ← c .before .before .before .before .before .before .before .before .before .before .stamp-field .ensures, c .before .before .before .before .before .before .before .before .secs .given .1, ← c .before .before .before .before .before .before .skip2 .ensures, ← c .before .before .before .before .before .whole-field .ensures, c .before .before .before .leap .given .1, eq-eqb _ _ (c .before .if1 .left), c .if2 .taken)
+chain k =
+    let f0 : SFits w64 (k .before .before .before .before .before .before .before .before .before .before .before .before .epoch .given .0 .0) = search needs in
+    let f1 : SFits w64 (k .before .before .before .before .before .before .before .secs .given .0 .0) = search needs in
+    let f2 : SFits w64 (k .before .before .leap .given .0 .0) = search needs in
+    rw (toZ-ofZ {w = w64} f0, toZ-ofZ {w = w64} f1, toZ-ofZ {w = w64} f2, ← k .before .before .before .before .before .before .before .before .before .before .before .before .before .before .epoch-field .ensures, k .before .before .before .before .before .before .before .before .before .before .before .before .epoch .given .1, ← k .before .before .before .before .before .before .before .before .before .before .skip .ensures, ← k .before .before .before .before .before .before .before .before .before .stamp-field .ensures, k .before .before .before .before .before .before .before .secs .given .1, ← k .before .before .before .before .before .skip2 .ensures, ← k .before .before .before .before .whole-field .ensures, k .before .before .leap .given .1, eq-eqb _ _ (k .if1 .left))
+
+returns-5 : tie.Need-returns-5
+returns-5 c = rw (chain (search), c .if2 .taken)
 
 returns-6 : tie.Need-returns-6
-unfolding unixRequest
-returns-6 c = let f0 : SFits w64 (c .before .before .before .before .before .before .before .before .before .before .before .before .before .epoch .given .0 .0) = search needs in let f1 : SFits w64 (c .before .before .before .before .before .before .before .before .secs .given .0 .0) = search needs in let f2 : SFits w64 (c .before .before .before .leap .given .0 .0) = search needs in rw (toZ-ofZ {w = w64} f0, toZ-ofZ {w = w64} f1, toZ-ofZ {w = w64} f2, ← c .before .before .before .before .before .before .before .before .before .before .before .before .before .before .before .epoch-field .ensures, c .before .before .before .before .before .before .before .before .before .before .before .before .before .epoch .given .1, ← c .before .before .before .before .before .before .before .before .before .before .before .skip .ensures, ← c .before .before .before .before .before .before .before .before .before .before .stamp-field .ensures, c .before .before .before .before .before .before .before .before .secs .given .1, ← c .before .before .before .before .before .before .skip2 .ensures, ← c .before .before .before .before .before .whole-field .ensures, c .before .before .before .leap .given .1, eq-eqb _ _ (c .before .if1 .left), c .if2 .left)
+returns-6 c = rw (chain (search), c .if2 .left)
 
 pub unix-request-spec : {M : Type 1} → statement M
 unix-request-spec =
