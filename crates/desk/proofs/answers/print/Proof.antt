@@ -6,13 +6,13 @@ use Rattle.desk.proofs.answers.print.Statement.{statement}
 use Rattle.desk.proofs.answers.print.Tie as tie
 
 add-result : tie.Need-add-result
-add-result c = let p = printed (c .before .before .before .before .before .before .before .before .before .before .before .before .before .args .t .secs) (c .before .before .before .before .before .before .before .before .before .before .before .before .before .args .t .nanos) (c .before .before .before .before .before .before .before .before .before .before .before .before .before .args .epoch .0) (c .before .before .before .before .before .before .before .before .before .before .before .before .before .args .precision) (c .before .before .before .before .before .before .before .before .before .before .before .before .before .args .out .now) (omega arith) (search needs) (search needs) (rw (c .before .before .before .before .before .before .n .given .1) at (c .before .before .before .before .before .before .before .before .before .before .display .ensures)) (c .before .before .put .ensures) in omega (arith, p .1)
+add-result c = let p = printed _ _ _ _ _ (omega arith) (search needs) (search needs) (rw (c .before .before .before .before .before .before .n .given .1) at (c .before .before .before .before .before .before .before .before .before .before .display .ensures)) (c .before .before .put .ensures) in omega (arith, p .1)
 
 returns : tie.Need-returns
-returns c = printed (c .before .before .before .before .before .before .before .before .before .before .before .before .before .args .t .secs) (c .before .before .before .before .before .before .before .before .before .before .before .before .before .args .t .nanos) (c .before .before .before .before .before .before .before .before .before .before .before .before .before .args .epoch .0) (c .before .before .before .before .before .before .before .before .before .before .before .before .before .args .precision) (c .before .before .before .before .before .before .before .before .before .before .before .before .before .args .out .now) (omega arith) (search needs) (search needs) (rw (c .before .before .before .before .before .before .n .given .1) at (c .before .before .before .before .before .before .before .before .before .before .display .ensures)) (c .before .before .put .ensures)
+returns c = printed _ _ _ _ _ (omega arith) (search needs) (search needs) (rw (c .before .before .before .before .before .before .n .given .1) at (c .before .before .before .before .before .before .before .before .before .before .display .ensures)) (c .before .before .put .ensures)
 
 returns-2 : tie.Need-returns-2
-returns-2 c = let p = refused (c .before .before .before .before .before .before .before .before .before .before .before .before .before .args .t .secs) (c .before .before .before .before .before .before .before .before .before .before .before .before .before .args .t .nanos) (c .before .before .before .before .before .before .before .before .before .before .before .before .before .args .epoch .0) (c .before .before .before .before .before .before .before .before .before .before .before .before .before .args .precision) (c .before .before .before .before .before .before .before .before .before .before .before .before .before .args .out .now) (omega arith) (search needs) (search needs) (rw (c .before .before .before .before .before .before .e .given .1) at (c .before .before .before .before .before .before .before .before .before .before .display .ensures)) in (rw (← p .1, ← c .before .before .before .of-print .ensures) (rw (p .0) at (c .before .before .put-refusal .ensures .0)), omega (arith, c .before .before .put-refusal .ensures .1))
+returns-2 c = let p = refused _ _ _ _ _ (omega arith) (search needs) (search needs) (rw (c .before .before .before .before .before .before .e .given .1) at (c .before .before .before .before .before .before .before .before .before .before .display .ensures)) in (rw (← p .1, ← c .before .before .before .of-print .ensures) (rw (p .0) at (c .before .before .put-refusal .ensures .0)), omega (arith, c .before .before .put-refusal .ensures .1))
 
 pub print-spec : {M : Type 1} → statement M
 print-spec =
