@@ -117,7 +117,7 @@ pairs-half [] = omega arith
 pairs-half (x ∷ []) = omega arith
 pairs-half (x ∷ y ∷ s) = omega (arith, pairs-half s)
 
-pub hex-half : (s : List ℕ) → 2 * length (hexBytes s) ≤ length s
+hex-half : (s : List ℕ) → 2 * length (hexBytes s) ≤ length s
 unfolding hexBytes
 hex-half s = go (alike s (bytes "-"))
   where

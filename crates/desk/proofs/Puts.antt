@@ -1,12 +1,12 @@
 -- Texts written one behind the other.
-use mathlib.Core.Path.{_≡_, refl, sym, ap, _∙_}
+use mathlib.Core.Path.{_≡_, refl, sym, _∙_}
 use mathlib.Core.List.{List, [], _∷_, _++_}
 use Prim.Native.Nat.{ℕ, suc, _+_, _<_, _≤_}
 use native.Mathlib.Nat.{zero-add, add-suc}
 use native.Mathlib.Numerals.{add-one}
 use native.Mathlib.Omega.{arith}
 use lib.ListN.{length, set, drop, getD, length-append, drop-of-length-le}
-use lib.Seq.{sets, sets-eq, drop-cons, length-sets}
+use lib.Seq.{sets, sets-eq, drop-cons}
 use Rattle.printer.proofs.Stores.{sets-append}
 use Rattle.desk.specs.Texts.{Put}
 
@@ -17,9 +17,6 @@ module _ {s l : List ℕ} {at r : ℕ} {text : List ℕ} where
         line = b .line ∙ rw (a .line, a .place) (sym (sets-append s at text more));
         place = b .place ∙ rw (length-append) (omega (arith, a .place));
       }
-
-  pub put-length : Put s at text l r → length l ≡ length s
-  put-length a = ap length (a .line) ∙ length-sets s at text
 
 pub put-none : (s : List ℕ) (at : ℕ) → Put s at [] s at
 put-none s at = record { line = refl; place = omega arith }

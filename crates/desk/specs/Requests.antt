@@ -137,7 +137,7 @@ countVerbs s =
 unfoldable pub countRequest : List ℕ → List ℕ → Request
 countRequest verb s = byWord verb Malformed (countVerbs s)
 
--- the verbs on texts, n bytes of the request before what stands behind each
+-- the verbs on texts, n bytes long, and what stands behind each
 abbrev pub textVerbs : ℕ → List ℕ → List (String × Request)
 textVerbs n s =
     ("print", printRequest s)
@@ -146,7 +146,7 @@ textVerbs n s =
     ∷ ("line", lineRequest n s)
     ∷ []
 
--- what n bytes of a verb ask of the rest s
+-- what a verb of n bytes asks of the rest s
 abbrev pub verbRequest : List ℕ → ℕ → List ℕ → Request
 verbRequest verb n s = byWord verb (countRequest verb s) (textVerbs n s)
 

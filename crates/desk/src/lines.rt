@@ -7,7 +7,6 @@ use crate::texts::put_integer;
 use crate::texts::put_natural;
 use counts::Ordering;
 ghost use mathlib.Core.List.{[]};
-ghost use mathlib.Core.Path.{_≡_};
 ghost use Prim.Native.Nat.{_+_, _≤_};
 ghost use lib.ListN.{length, getD};
 ghost use Rattle.desk.specs.Texts.{names, Put};
