@@ -204,7 +204,6 @@ fn put_answer(request: &[u8], out: &mut [u8]) -> usize
 // the request: where out has less room, nothing is written.
 pub fn answer(request: &[u8], out: &mut [u8]) -> usize
     ensures { λ r. ⌜ (r, now (out .exit)) ≡ answered (now (request .entry)) (now (out .entry)) ⌝ }
-    ensures { λ r. ⌜ r ≤ length (now (out .entry)) ⌝ }
 {
     if out.len() < 128 {
         return 0;

@@ -8,16 +8,16 @@ use Rattle.desk.proofs.answers.answer.Statement.{statement}
 use Rattle.desk.proofs.answers.answer.Tie as tie
 
 returns : tie.Need-returns
-returns c = (sym (answered-none _ _ (omega arith)), omega arith)
+returns c = sym (answered-none _ _ (omega arith))
 
 returns-2 : tie.Need-returns-2
-returns-2 c = (sym (answered-none _ _ (omega arith)), omega arith)
+returns-2 c = sym (answered-none _ _ (omega arith))
 
 returns-3 : tie.Need-returns-3
 returns-3 c =
     let p = c .before .before .put-answer .ensures in
     let k = put-on (p .0) (put-one _ _ 10) in
-    (put-front k (omega (arith, k .place)) ∙ sym (answered-front _ _ (omega arith)), omega arith)
+    put-front k (omega (arith, k .place)) ∙ sym (answered-front _ _ (omega arith))
 
 pub answer-spec : {M : Type 1} → statement M
 answer-spec =
