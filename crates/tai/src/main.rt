@@ -1,6 +1,5 @@
 // The program for the desk: requests from standard input, or one from the arguments, and a line for each.
 mod input;
-mod output;
 
 use desk::answer;
 use libc::STDOUT_FILENO;
@@ -33,10 +32,21 @@ fn join_arguments(request: &mut [u8]) -> usize
     at - 1
 }
 
+// The first n bytes of out to standard output, and whether it took them; that it did not is told.
+pub(crate) fn write(out: &[u8], n: usize) -> bool
+    requires { ⌜ n ≤ length (now out) ⌝ }
+{
+    if io::write_all(STDOUT_FILENO, &out[..n]) {
+        return true;
+    }
+    os::fail(b"tai: standard output");
+    false
+}
+
 fn answer_arguments(request: &mut [u8], out: &mut [u8]) {
     let n = join_arguments(request);
     let m = answer(&request[..n], out);
-    io::write_all(STDOUT_FILENO, &out[..m]);
+    write(out, m);
 }
 
 fn main() {

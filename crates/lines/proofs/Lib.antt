@@ -1,0 +1,4 @@
+pub mod Cuts
+pub mod Turns
+pub mod Moves
+pub mod Pieces

@@ -1,0 +1,198 @@
+-- The turns over the bytes of an input: nothing done, a line passed over, a line answered, and one turn after another.
+use mathlib.Core.Path.{_≡_, refl, sym, ap, _∙_}
+use mathlib.Core.Bool.{Bool, true, false, cond, not, or-true}
+use mathlib.Core.List.{List, [], _∷_, _++_, append-nil, append-assoc}
+use mathlib.Core.Logic.{_⊎_, inl, inr, ⊎-elim}
+use Prim.Native.Nat.{ℕ, suc, _+_, _-_, _<_, _≤_}
+use native.Mathlib.Omega.{arith}
+use native.Mathlib.Nat.{zero-add}
+use lib.Dec.{eqb, ltb}
+use lib.ListN.{length, take, drop, length-take, length-drop, length-append, drop-of-length-le}
+use lib.Seq.{length-take-le, take-all, take-add, take-at, drop-at, drop-drop, take-append-seam, drop-append-seam}
+use borrow.Rule.Slice.PartMut.{midOf, putMid, same-len-mid}
+use borrow.Author.Tests.{le-ltb, ltb-true, ltb-false, eqb-true, eqb-false}
+use mir.Val.{boolByte}
+use Rattle.bytes.specs.Bytes.{indexOf, indexAfter, slice}
+use Rattle.desk.specs.Answers.{answerText, answered}
+use Rattle.desk.proofs.Answered.{answered-front, answered-none, answer-too-long, answered-fits}
+use Rattle.lines.specs.Lines.{lines, answers, input, ready, Done, Turn}
+use Rattle.lines.specs.declared.Answered.{Answered}
+use Rattle.lines.proofs.Cuts.{first, goesOn, used, pass, first-line, first-long, answers-first}
+
+-- what `find` found
+pub found : (s : List ℕ) {end : ℕ} → end ≡ 0 + indexOf 10 (slice 0 (length s) s) → end ≡ indexOf 10 s
+unfolding slice
+found s e = e ∙ rw (zero-add, take-all (length s) s (omega arith))
+
+module _ (s : List ℕ) (within ended : Bool) (out : List ℕ) where
+  pub done-nothing : Done s within ended out out (record { used = 0; written = 0; within = within })
+  done-nothing = record { same = λ later. refl; usedFits = omega arith; writtenFits = omega arith; behind = refl }
+
+  turn-left : (ready ended s ≡ true → 65664 ≤ length out → ⊥)
+      → Turn s within ended out out (record { used = 0; written = 0; within = within })
+  turn-left h = record { done = done-nothing; goesOn = λ e k. absurd (h e k) }
+
+  -- no line can be answered
+  pub turn-waiting : ready ended s ≡ false → Turn s within ended out out (record { used = 0; written = 0; within = within })
+  turn-waiting h = turn-left (λ e _. let z : _≡_ {A = ℕ} 0 1 = cc in omega arith)
+
+-- a line that can be answered has a byte
+pub ready-some : (ended : Bool) (s : List ℕ) → ready ended s ≡ true → 0 < length s
+unfolding ready indexOf
+ready-some true [] e = let z : _≡_ {A = ℕ} 0 1 = cc in omega arith
+ready-some false [] e = let z : _≡_ {A = ℕ} 0 1 = cc in omega arith
+ready-some ended (x ∷ s) e = omega arith
+
+index-le : (s : List ℕ) → indexOf 10 s ≤ length s
+unfolding indexOf indexAfter
+index-le [] = omega arith
+index-le (x ∷ s) = at (eqb x 10) (index-le s)
+  where
+    at : (b : Bool) → indexOf 10 s ≤ length s → indexAfter b (indexOf 10 s) ≤ suc (length s)
+    at true h = omega arith
+    at false h = omega arith
+
+-- of bytes that are there, some are used, and no more
+pub used-some : (s : List ℕ) → (used s ≤ length s) × (0 < length s → 0 < used s)
+used-some s = at (goesOn s) refl (index-le s)
+  where
+    at : (b : Bool) → goesOn s ≡ b → indexOf 10 s ≤ length s
+        → (indexOf 10 s + boolByte (not b) ≤ length s) × (0 < length s → 0 < indexOf 10 s + boolByte (not b))
+    at true e h = let k : indexOf 10 s ≡ length s = eqb-true _ _ e in (omega arith, λ g. omega arith)
+    at false e h = let k : indexOf 10 s ≡ length s → ⊥ = eqb-false _ _ e in (omega arith, λ g. omega arith)
+
+module _ (s : List ℕ) (ended : Bool) (out : List ℕ) where
+  pub turn-passed : Turn s true ended out out (record { used = used s; written = 0; within = goesOn s })
+  turn-passed =
+      record {
+        done = record { same = λ later. pass (cond ended [] later) s; usedFits = used-some s .0; writtenFits = omega arith; behind = refl };
+        goesOn = λ e k. used-some s .1 (ready-some ended s e);
+      }
+
+-- the answer to the first line is decided on its first n bytes: on all of them, or on more than a request may have
+line-text : (s later : List ℕ) (ended : Bool) (n : ℕ) → ready ended s ≡ true → n ≤ indexOf 10 s → (65535 < n) ⊎ (n ≡ indexOf 10 s)
+    → answerText (first (lines (input ended s later))) ≡ answerText (take n s)
+unfolding ready
+line-text s later ended n e h enough = at (ltb 65535 n) refl
+  where
+    t : List ℕ
+    t = cond ended [] later
+
+    known : (b c : Bool) → ended ≡ b → goesOn s ≡ c → indexOf 10 s ≤ 65535 → (goesOn s ≡ false) ⊎ (t ≡ [])
+    known true c d k m = inr (rw d)
+    known false false d k m = inl k
+    known false true d k m =
+        let q : indexOf 10 s ≡ length s = eqb-true _ _ k in
+        let l = rw (d, le-ltb (indexOf 10 s) (length s) (omega arith), le-ltb 65535 (length s) (omega arith)) at e in
+        let z : _≡_ {A = ℕ} 0 1 = cc in absurd (omega arith)
+
+    at : (b : Bool) → ltb 65535 n ≡ b → answerText (first (lines (s ++ t))) ≡ answerText (take n s)
+    at true k =
+        let m : 65535 < n = ltb-true _ _ k in
+        answer-too-long (first (lines (s ++ t))) (omega (arith, first-long t s))
+        ∙ sym (answer-too-long (take n s) (rw length-take (omega (arith, index-le s))))
+    at false k =
+        let m : n ≤ 65535 = ltb-false _ _ k in
+        let q : n ≡ indexOf 10 s = ⊎-elim (λ l. absurd (omega arith)) (λ l. l) enough in
+        rw (q, first-line t s (known ended (goesOn s) refl refl (omega arith)))
+
+-- what an answer wrote
+record Wrote (s out : List ℕ) (w : ℕ) (out′ : List ℕ) : Type 0 where
+  text : take w out′ ≡ answerText s ++ (10 ∷ [])
+  behind : drop w out′ ≡ drop w out
+  some : 0 < w
+
+wrote : (s out : List ℕ) {w : ℕ} {out′ : List ℕ} → (w, out′) ≡ answered s out → length s + 128 ≤ length out → Wrote s out w out′
+wrote s out {w} {out′} e h =
+    let k = e ∙ answered-front s out h in
+    let a : w ≡ length (answerText s ++ (10 ∷ [])) = ap (λ (x : ℕ × List ℕ). x .0) k in
+    let b : out′ ≡ (answerText s ++ (10 ∷ [])) ++ drop (length (answerText s ++ (10 ∷ []))) out = ap (λ (x : ℕ × List ℕ). x .1) k in
+    record { text = rw (a, b, take-append-seam); behind = rw (a, b, drop-append-seam); some = rw (a, length-append) (omega arith) }
+
+module _ (s : List ℕ) (ended : Bool) (out : List ℕ) (n : ℕ) {w : ℕ} {out′ : List ℕ} (answer : (w, out′) ≡ answered (take n s) out) where
+  -- the answer has no room
+  pub turn-full : (0 < w → ⊥) → n ≤ 65536 → Turn s false ended out out′ (record { used = 0; written = 0; within = false })
+  turn-full e h = at (ltb (length out) (length (take n s) + 128)) refl
+    where
+      at : (b : Bool) → ltb (length out) (length (take n s) + 128) ≡ b
+          → Turn s false ended out out′ (record { used = 0; written = 0; within = false })
+      at true k =
+          let m : length out < length (take n s) + 128 = ltb-true _ _ k in
+          rw (ap (λ (x : ℕ × List ℕ). x .1) (answer ∙ answered-none (take n s) out m))
+          (turn-left s false ended out (λ _ room. omega (arith, length-take n s)))
+      at false k = absurd (e (wrote (take n s) out answer (ltb-false _ _ k) .some))
+
+  pub turn-answered : 0 < w → length out′ ≡ length out → ready ended s ≡ true
+      → n ≤ indexOf 10 s → (65535 < n) ⊎ (n ≡ indexOf 10 s)
+      → Turn s false ended out out′ (record { used = used s; written = w; within = goesOn s })
+  turn-answered some kept e h enough =
+      record {
+        done =
+            record {
+              same =
+                  λ later.
+                  answers-first (input ended s later) (rw length-append (omega (arith, ready-some ended s e)))
+                  ∙ rw (line-text s later ended n e h enough, pass (cond ended [] later) s, text .text, append-assoc);
+              usedFits = used-some s .0;
+              writtenFits = answered-fits (take n s) out answer kept;
+              behind = text .behind;
+            };
+        goesOn = λ _ _. used-some s .1 (ready-some ended s e);
+      }
+    where
+      text : Wrote (take n s) out w out′
+      text = at (ltb (length out) (length (take n s) + 128)) refl
+        where
+          at : (b : Bool) → ltb (length out) (length (take n s) + 128) ≡ b → Wrote (take n s) out w out′
+          at true k = absurd (omega (arith, ap (λ (x : ℕ × List ℕ). x .0) (answer ∙ answered-none (take n s) out (ltb-true _ _ k))))
+          at false k = wrote (take n s) out answer (ltb-false _ _ k)
+
+-- the part of a list from a place on, and the list with another part there
+part-from : (a : ℕ) (l : List ℕ) → midOf a (length l - a) l ≡ drop a l
+part-from a l = take-all (length l - a) (drop a l) (rw length-drop (omega arith))
+
+put-from : (a : ℕ) (l m : List ℕ) → putMid a (length l - a) l m ≡ take a l ++ m
+put-from a l m = rw (drop-of-length-le (drop a l) {i = length l - a} (rw length-drop (omega arith)), append-nil)
+
+-- a turn over what is left, behind what is done
+module _ {s out₀ out ys : List ℕ} {within ended goes : Bool} {u w : ℕ} {q : Answered}
+    (first : Done s within ended out₀ out (record { used = u; written = w; within = goes })) (as-long : length out ≡ length out₀)
+    (next : Turn (midOf u (length s - u) s) goes ended (midOf w (length out - w) out) ys q) where
+  pub done-again : Done s within ended out₀ (putMid w (length out - w) out ys) (record { used = u + q .used; written = w + q .written; within = q .within })
+  done-again =
+      let turn = rw (part-from u s, part-from w out) at next in
+      let front : length (take w out) ≡ w = length-take-le w out (omega (arith, first .writtenFits)) in
+      rw (put-from w out ys)
+      (record {
+        same =
+            λ later.
+            first .same later
+            ∙ rw (turn .done .same later, take-add, take-at (take w out) ys w front, drop-at (take w out) ys w front, drop-drop, append-assoc);
+        usedFits = omega (arith, turn .done .usedFits, length-drop u s, first .usedFits);
+        writtenFits = omega (arith, turn .done .writtenFits, length-drop w out, first .writtenFits);
+        behind = rw (← drop-drop, drop-at (take w out) ys w front, turn .done .behind, first .behind, drop-drop);
+      })
+
+  pub long-again : length ys ≡ length (midOf w (length out - w) out) → length (putMid w (length out - w) out ys) ≡ length out₀
+  long-again h = same-len-mid w (length out - w) out ys h ∙ as-long
+
+  pub turn-again : (u ≡ 0 → w ≡ 0)
+      → Turn s within ended out₀ (putMid w (length out - w) out ys) (record { used = u + q .used; written = w + q .written; within = q .within })
+  turn-again start = record { done = done-again; goesOn = at (ltb 0 u) refl }
+    where
+      at : (b : Bool) → ltb 0 u ≡ b → ready ended s ≡ true → 65664 ≤ length out₀ → 0 < u + q .used
+      at true k e room = let some : 0 < u = ltb-true _ _ k in omega arith
+      at false k e room =
+          let none : u ≡ 0 = omega (arith, ltb-false 0 u k) in
+          let turn = rw (part-from u s, part-from w out, none, start none) at next in
+          omega (arith, turn .goesOn e (omega arith))
+
+-- bytes of which none was used, though an answer had room, are no more than a request may have
+pub left-short : {s out out′ : List ℕ} {within ended : Bool} {r : Answered} → Turn s within ended out out′ r
+    → r .used ≡ 0 → 65664 ≤ length out → length s ≤ 65535
+unfolding ready
+left-short {s} {ended = ended} turn none room = at (ltb 65535 (length s)) refl
+  where
+    at : (b : Bool) → ltb 65535 (length s) ≡ b → length s ≤ 65535
+    at true k = absurd (omega (arith, turn .goesOn (rw (k, or-true)) room))
+    at false k = ltb-false _ _ k

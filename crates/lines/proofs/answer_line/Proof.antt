@@ -1,0 +1,92 @@
+use Rattle.lines.proofs.Turns.{used-some}
+use mathlib.Core.Path.{_≡_, sym, ap, _∙_}
+use mathlib.Core.Logic.{_⊎_, inl, inr, ⊎-elim}
+use Prim.Native.Nat.{ℕ}
+use native.Mathlib.Omega.{arith}
+use lib.ListN.{length, length-take}
+use Rattle.lines.proofs.Turns.{found, turn-waiting, turn-passed, turn-full, turn-answered}
+use borrow.Author.Needs.{needs}
+use Rattle.lines.proofs.answer_line.Statement.{statement}
+use Rattle.lines.proofs.answer_line.Tie as tie
+use Rattle.lines.proofs.answer_line.Reads as reads
+use Rattle.lines.proofs.answer_line.Lts as lts
+use Rattle.bytes.proofs.scan.find.Reads as find-reads
+use Rattle.desk.proofs.answer.Reads as answer-reads
+use Rattle.lines.proofs.is_ready.Reads as is-ready-reads
+
+find-requires : tie.Need-find-requires
+find-requires c κs = search needs
+
+cast-used : tie.Need-cast-used
+cast-used c = search needs
+
+add-used : tie.Need-add-used
+add-used c =
+    let args = c .before .before .before .args in
+    rw (found (args .s .now) (c .find .ensures .0)) (let k = used-some (args .s .now) .0 in omega arith)
+
+returns : tie.Need-returns
+returns c = rw (found (c .before .before .before .before .args .s .now) (c .before .find .ensures .0), c .if1 .taken) (turn-passed _ _ _)
+
+is-ready-requires : tie.Need-is-ready-requires
+is-ready-requires c κs = found _ (c .before .find .ensures .0)
+
+slice-aggregate-answer : tie.Need-slice-aggregate-answer
+slice-aggregate-answer c =
+    let find = c .before .before .before .before .before .find in
+    rw length-take (⊎-elim (λ w. omega (arith, find .ensures .1)) (λ w. omega (arith, find .ensures .1)) (c .before .if3 .came))
+
+answer-requires : tie.Need-answer-requires
+answer-requires c κs = search needs
+
+same-length : tie.Need-same-length
+same-length c = search needs
+
+returns-2 : tie.Need-returns-2
+returns-2 c =
+    let args = c .before .before .before .before .before .before .before .before .before .before .before .before .before .args in
+    let find = c .before .before .before .before .before .before .before .before .before .before .find in
+    let if1 = c .before .before .before .before .before .before .before .before .before .if1 in
+    let if3 = c .before .before .before .before .before .before .if3 in
+    let answer = c .before .before .before .answer in
+    let is-ready = c .before .before .before .before .before .before .before .before .is-ready in
+    let if2 = c .before .before .before .before .before .before .before .if2 in
+    let q = found (args .s .now) (find .ensures .0) in
+    rw (q, if1 .left)
+    (turn-answered (args .s .now) _ (args .out .now) (if3 .length) (answer .ensures .0) (c .if4 .taken) (answer .kept .1 .0)
+    (sym (is-ready .ensures) ∙ if2 .taken)
+    (⊎-elim (λ w. omega arith) (λ w. omega arith) (if3 .came))
+    (⊎-elim (λ w. inl (omega arith)) (λ w. inr (w .1 ∙ q)) (if3 .came)))
+
+same-length-2 : tie.Need-same-length-2
+same-length-2 c = search needs
+
+returns-3 : tie.Need-returns-3
+returns-3 c =
+    let if1 = c .before .before .before .before .before .before .before .before .before .if1 in
+    let args = c .before .before .before .before .before .before .before .before .before .before .before .before .before .args in
+    let if3 = c .before .before .before .before .before .before .if3 in
+    let answer = c .before .before .before .answer in
+    rw (if1 .left)
+    (turn-full (args .s .now) _ (args .out .now) (if3 .length) (answer .ensures .0) (λ h. omega arith)
+    (⊎-elim (λ w. omega arith) (λ w. omega arith) (if3 .came)))
+
+returns-4 : tie.Need-returns-4
+returns-4 c = turn-waiting _ _ _ _ (sym (c .before .is-ready .ensures) ∙ c .if2 .left)
+
+pub answer-line-spec : {M : Type 1} → statement M
+answer-line-spec =
+    tie.close
+    (tie.spec
+    find-requires
+    cast-used
+    add-used
+    returns
+    is-ready-requires
+    slice-aggregate-answer
+    answer-requires
+    same-length
+    returns-2
+    same-length-2
+    returns-3
+    returns-4)
