@@ -106,3 +106,11 @@ def add_longest(requests):
         requests.add_bytes(start.ljust(length, b"0"))
     start = b"line 2 0 0 - 32741 "
     requests.add_bytes(start.ljust(LONGEST_LINE - (LONGEST_LINE - len(start)) % 2, b"f"))
+    add_too_long(requests)
+
+
+def add_too_long(requests):
+    """Lines far too long, each with a request behind it, which shows an answer too few or too many."""
+    for length in (70_000, 100_000, 131_000, 110_000, 130_945, 120_000, 131_071, 131_072, 200_000):
+        requests.add_bytes(b"print".ljust(length, b" "))
+        requests.add("print", length, 0, 0, "-")
