@@ -3,7 +3,7 @@ use crate::write;
 use libc::STDIN_FILENO;
 use lines::answer_lines;
 use lines::move_to_front;
-ghost use Prim.Native.Nat.{_+_, _-_, _≤_, _<_};
+ghost use Prim.Native.Nat.{_+_, _≤_, _<_};
 ghost use lib.ListN.{length};
 
 // One read, behind the bytes kept. There is room for a byte, so that none is the input's end, or an error, which is told.
@@ -18,40 +18,29 @@ fn read_behind(input: &mut [u8], kept: usize) -> usize
     io::count(got, &input[kept..])
 }
 
-// What is left of the input, moved to the front, and what one read brings: how many bytes they are.
-fn read_on(input: &mut [u8], from: usize, end: usize) -> usize
-    requires { ⌜ (from ≤ end) × (end ≤ length (now input)) × (end - from < length (now input)) ⌝ }
-    ensures { λ r. ⌜ r ≤ length (now (input .exit)) ⌝ }
-{
-    let kept = move_to_front(&mut input[..end], from);
-    kept + read_behind(input, kept)
-}
-
-// The input from `from` to `end` is not answered yet. A proved loop has to end, and nothing says that the input does: no
-// run uses up the count of turns.
+// The first `end` bytes of the input are there and not answered yet. A proved loop has to end, and nothing says that the
+// input does: no run uses up the count of turns.
 pub(crate) fn answer_input(input: &mut [u8], out: &mut [u8])
     requires { ⌜ (65536 ≤ length (now input)) × (65664 ≤ length (now out)) ⌝ }
 {
-    let mut from = 0;
     let mut end = 0;
     let mut within = false;
     let mut ended = false;
     let mut turns = u64::MAX;
     while 0 < turns {
-        let done = answer_lines(&input[from..end], within, ended, out);
+        let done = answer_lines(&input[..end], within, ended, out);
         if !write(out, done.written) {
             return;
         }
-        from += done.used;
         within = done.within;
+        end = move_to_front(&mut input[..end], done.used);
         if done.used == 0 {
             if ended {
                 return;
             }
-            let there = read_on(input, from, end);
-            ended = there == end - from;
-            from = 0;
-            end = there;
+            let n = read_behind(input, end);
+            end += n;
+            ended = n == 0;
         }
         turns -= 1;
     }
