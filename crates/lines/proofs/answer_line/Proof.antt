@@ -53,7 +53,7 @@ returns-2 c =
     let if2 = c .before .before .before .before .before .before .before .if2 in
     let q = found (args .s .now) (find .ensures .0) in
     rw (q, if1 .left)
-    (turn-answered (args .s .now) _ (args .out .now) (if3 .length) (answer .ensures .0) (c .if4 .taken) (answer .kept .1 .0)
+    (turn-answered (args .s .now) _ (args .out .now) (if3 .length) (answer .ensures) (c .if4 .taken) (answer .kept .1 .0)
     (sym (is-ready .ensures) ∙ if2 .taken)
     (⊎-elim (λ w. omega arith) (λ w. omega arith) (if3 .came))
     (⊎-elim (λ w. inl (omega arith)) (λ w. inr (w .1 ∙ q)) (if3 .came)))
@@ -68,7 +68,7 @@ returns-3 c =
     let if3 = c .before .before .before .before .before .before .if3 in
     let answer = c .before .before .before .answer in
     rw (if1 .left)
-    (turn-full (args .s .now) _ (args .out .now) (if3 .length) (answer .ensures .0) (λ h. omega arith)
+    (turn-full (args .s .now) _ (args .out .now) (if3 .length) (answer .ensures) (λ h. omega arith)
     (⊎-elim (λ w. omega arith) (λ w. omega arith) (if3 .came)))
 
 returns-4 : tie.Need-returns-4

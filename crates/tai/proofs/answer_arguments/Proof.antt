@@ -25,7 +25,7 @@ answer-requires c κs = search needs
 write-requires : tie.Need-write-requires
 write-requires c κs =
     let answer = c .before .before .before .answer in
-    let k = answered-fits _ _ (answer .ensures .0) (answer .kept .1 .0) in
+    let k = answered-fits _ _ (answer .ensures) (answer .kept .1 .0) in
     omega (arith, answer .kept .1 .0)
 
 same-length : tie.Need-same-length
