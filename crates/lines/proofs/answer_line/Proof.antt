@@ -1,24 +1,11 @@
-use Rattle.lines.proofs.Turns.{used-some}
-use mathlib.Core.Path.{_≡_, sym, ap, _∙_}
-use mathlib.Core.Logic.{_⊎_, inl, inr, ⊎-elim}
-use Prim.Native.Nat.{ℕ}
+use mathlib.Core.Path.{sym, _∙_}
+use mathlib.Core.Logic.{inl, inr, ⊎-elim}
 use native.Mathlib.Omega.{arith}
 use lib.ListN.{length, length-take}
-use Rattle.lines.proofs.Turns.{found, turn-waiting, turn-passed, turn-full, turn-answered}
+use Rattle.lines.proofs.Turns.{found, used-some, turn-waiting, turn-passed, turn-full, turn-answered}
 use borrow.Author.Needs.{needs}
 use Rattle.lines.proofs.answer_line.Statement.{statement}
 use Rattle.lines.proofs.answer_line.Tie as tie
-use Rattle.lines.proofs.answer_line.Reads as reads
-use Rattle.lines.proofs.answer_line.Lts as lts
-use Rattle.bytes.proofs.scan.find.Reads as find-reads
-use Rattle.desk.proofs.answer.Reads as answer-reads
-use Rattle.lines.proofs.is_ready.Reads as is-ready-reads
-
-find-requires : tie.Need-find-requires
-find-requires c κs = search needs
-
-cast-used : tie.Need-cast-used
-cast-used c = search needs
 
 add-used : tie.Need-add-used
 add-used c =
@@ -36,12 +23,6 @@ slice-aggregate-answer c =
     let find = c .before .before .before .before .before .find in
     rw length-take (⊎-elim (λ w. omega (arith, find .ensures .1)) (λ w. omega (arith, find .ensures .1)) (c .before .if3 .came))
 
-answer-requires : tie.Need-answer-requires
-answer-requires c κs = search needs
-
-same-length : tie.Need-same-length
-same-length c = search needs
-
 returns-2 : tie.Need-returns-2
 returns-2 c =
     let args = c .before .before .before .before .before .before .before .before .before .before .before .before .before .args in
@@ -57,9 +38,6 @@ returns-2 c =
     (sym (is-ready .ensures) ∙ if2 .taken)
     (⊎-elim (λ w. omega arith) (λ w. omega arith) (if3 .came))
     (⊎-elim (λ w. inl (omega arith)) (λ w. inr (w .1 ∙ q)) (if3 .came)))
-
-same-length-2 : tie.Need-same-length-2
-same-length-2 c = search needs
 
 returns-3 : tie.Need-returns-3
 returns-3 c =
@@ -78,15 +56,15 @@ pub answer-line-spec : {M : Type 1} → statement M
 answer-line-spec =
     tie.close
     (tie.spec
-    find-requires
-    cast-used
+    (λ c κs. search needs)
+    (λ c. search needs)
     add-used
     returns
     is-ready-requires
     slice-aggregate-answer
-    answer-requires
-    same-length
+    (λ c κs. search needs)
+    (λ c. search needs)
     returns-2
-    same-length-2
+    (λ c. search needs)
     returns-3
     returns-4)

@@ -6,9 +6,6 @@ use Rattle.lines.specs.Lines.{Done}
 use Rattle.lines.proofs.Turns.{ready-some, done-nothing, done-again, long-again, turn-again}
 use Rattle.lines.proofs.answer_lines.Statement.{statement}
 use Rattle.lines.proofs.answer_lines.Tie as tie
-use Rattle.lines.proofs.answer_lines.Reads as reads
-use Rattle.lines.proofs.answer_lines.Lts as lts
-use Rattle.lines.proofs.answer_line.Reads as answer-line-reads
 
 abbrev Inv-loop : tie.InvT-loop
 Inv-loop s within ended out₀ used₀ written₀ within₀ out used written within' =
@@ -28,20 +25,11 @@ sub-answer-line c = omega (arith, c .before .loop .inv .0 .usedFits)
 part-answer-line-start : tie.Need-part-answer-line-start Inv-loop μ-loop
 part-answer-line-start c = omega (arith, c .before .loop .inv .0 .usedFits)
 
-part-answer-line-end : tie.Need-part-answer-line-end Inv-loop μ-loop
-part-answer-line-end c = omega arith
-
 sub-answer-line-2 : tie.Need-sub-answer-line-2 Inv-loop μ-loop
 sub-answer-line-2 c = omega (arith, c .before .before .loop .inv .0 .writtenFits, c .before .before .loop .inv .1)
 
 part-answer-line-start-2 : tie.Need-part-answer-line-start-2 Inv-loop μ-loop
 part-answer-line-start-2 c = omega (arith, c .before .before .loop .inv .0 .writtenFits, c .before .before .loop .inv .1)
-
-part-answer-line-end-2 : tie.Need-part-answer-line-end-2 Inv-loop μ-loop
-part-answer-line-end-2 c = omega arith
-
-answer-line-requires : tie.Need-answer-line-requires Inv-loop μ-loop
-answer-line-requires c κs = tt
 
 add-used : tie.Need-add-used Inv-loop μ-loop
 add-used c =
@@ -54,9 +42,6 @@ add-written c =
     let loop = c .before .before .before .before .before .before .before .before .loop in
     let answer-line = c .before .before .before .before .answer-line in
     omega (arith, done-again (loop .inv .0) (loop .inv .1) (answer-line .ensures) .writtenFits)
-
-loop-less : tie.Need-loop-less Inv-loop μ-loop
-loop-less c = omega arith
 
 loop-again : tie.Need-loop-again Inv-loop μ-loop
 loop-again c =
@@ -94,14 +79,14 @@ answer-lines-spec =
     loop-holds
     sub-answer-line
     part-answer-line-start
-    part-answer-line-end
+    (λ c. omega arith)
     sub-answer-line-2
     part-answer-line-start-2
-    part-answer-line-end-2
-    answer-line-requires
+    (λ c. omega arith)
+    (λ c κs. tt)
     add-used
     add-written
-    loop-less
+    (λ c. omega arith)
     loop-again
     same-length
     returns

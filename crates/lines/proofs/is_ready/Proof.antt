@@ -1,13 +1,8 @@
-use mathlib.Core.Path.{_≡_, refl, sym, _∙_}
-use native.Mathlib.Omega.{arith}
-use lib.ListN.{length}
 use borrow.Author.Tests.{lt-ltb, le-ltb}
 use mathlib.Core.Bool.{or-true}
 use Rattle.lines.specs.Lines.{ready}
 use Rattle.lines.proofs.is_ready.Statement.{statement}
 use Rattle.lines.proofs.is_ready.Tie as tie
-use Rattle.lines.proofs.is_ready.Reads as reads
-use Rattle.lines.proofs.is_ready.Lts as lts
 
 returns : tie.Need-returns
 unfolding ready

@@ -1,13 +1,10 @@
-use mathlib.Core.Path.{_≡_, refl, sym, ap, _∙_}
-use Prim.Native.Nat.{ℕ, _+_, _-_, _≤_}
-use native.Mathlib.Nat.{add-zero}
+use mathlib.Core.Path.{_≡_, refl}
+use Prim.Native.Nat.{_+_, _-_, _≤_}
 use native.Mathlib.Omega.{arith}
 use lib.ListN.{length, length-set}
 use Rattle.lines.proofs.Moves.{moving, move-one, moved}
 use Rattle.lines.proofs.move_to_front.Statement.{statement}
 use Rattle.lines.proofs.move_to_front.Tie as tie
-use Rattle.lines.proofs.move_to_front.Reads as reads
-use Rattle.lines.proofs.move_to_front.Lts as lts
 
 abbrev Inv-loop : tie.InvT-loop
 Inv-loop s₀ from kept₀ i₀ s kept i = (i ≡ from + kept) × (kept ≤ length s₀ - from) × (s ≡ moving s₀ from kept) × (length s ≡ length s₀)
@@ -17,21 +14,6 @@ abbrev μ-loop : tie.MeasureT-loop
 
 loop-holds : tie.Need-loop-holds Inv-loop μ-loop
 loop-holds c = (omega arith, omega arith, refl, refl)
-
-slice-read-s : tie.Need-slice-read-s Inv-loop μ-loop
-slice-read-s c = omega arith
-
-slice-write-s : tie.Need-slice-write-s Inv-loop μ-loop
-slice-write-s c = omega arith
-
-add-kept : tie.Need-add-kept Inv-loop μ-loop
-add-kept c = omega arith
-
-add-i : tie.Need-add-i Inv-loop μ-loop
-add-i c = omega arith
-
-loop-less : tie.Need-loop-less Inv-loop μ-loop
-loop-less c = omega arith
 
 loop-again : tie.Need-loop-again Inv-loop μ-loop
 loop-again c =
@@ -56,11 +38,11 @@ move-to-front-spec =
     Inv-loop
     μ-loop
     loop-holds
-    slice-read-s
-    slice-write-s
-    add-kept
-    add-i
-    loop-less
+    (λ c. omega arith)
+    (λ c. omega arith)
+    (λ c. omega arith)
+    (λ c. omega arith)
+    (λ c. omega arith)
     loop-again
     same-length
     returns)

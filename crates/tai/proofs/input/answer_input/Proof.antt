@@ -8,12 +8,6 @@ use Rattle.lines.proofs.Moves.{moved-count}
 use Rattle.lines.proofs.Turns.{left-short}
 use Rattle.tai.proofs.input.answer_input.Statement.{statement}
 use Rattle.tai.proofs.input.answer_input.Tie as tie
-use Rattle.tai.proofs.input.answer_input.Reads as reads
-use Rattle.tai.proofs.input.answer_input.Lts as lts
-use Rattle.lines.proofs.answer_lines.Reads as answer-lines-reads
-use Rattle.lines.proofs.move_to_front.Reads as move-to-front-reads
-use Rattle.tai.proofs.input.read_behind.Reads as read-behind-reads
-use Rattle.tai.proofs.write.Reads as write-reads
 
 abbrev Inv-loop : tie.InvT-loop
 Inv-loop input₀ out₀ end₀ within₀ ended₀ turns₀ input out end within ended turns =
@@ -25,14 +19,8 @@ abbrev μ-loop : tie.MeasureT-loop
 loop-holds : tie.Need-loop-holds Inv-loop μ-loop
 loop-holds c = (omega arith, refl, refl)
 
-slice-reshare-prefix-answer-lines : tie.Need-slice-reshare-prefix-answer-lines Inv-loop μ-loop
-slice-reshare-prefix-answer-lines c = omega arith
-
 slice-aggregate-answer-lines : tie.Need-slice-aggregate-answer-lines Inv-loop μ-loop
 slice-aggregate-answer-lines c = rw length-take (omega arith)
-
-answer-lines-requires : tie.Need-answer-lines-requires Inv-loop μ-loop
-answer-lines-requires c κs = tt
 
 write-requires : tie.Need-write-requires Inv-loop μ-loop
 write-requires c κs =
@@ -48,17 +36,8 @@ same-length-2 c =
     let loop = c .before .before .before .before .before .before .before .before .before .loop in
     answer-lines .kept .1 .1 .1 .0 ∙ loop .inv .2
 
-returns : tie.Need-returns Inv-loop μ-loop
-returns c = tt
-
-slice-relend-prefix-move-to-front : tie.Need-slice-relend-prefix-move-to-front Inv-loop μ-loop
-slice-relend-prefix-move-to-front c = omega arith
-
 slice-aggregate-move-to-front : tie.Need-slice-aggregate-move-to-front Inv-loop μ-loop
 slice-aggregate-move-to-front c = rw length-take (omega arith)
-
-move-to-front-requires : tie.Need-move-to-front-requires Inv-loop μ-loop
-move-to-front-requires c κs = tt
 
 same-length-3 : tie.Need-same-length-3 Inv-loop μ-loop
 same-length-3 c =
@@ -72,9 +51,6 @@ same-length-4 c =
     let loop = c .before .before .before .before .before .before .before .before .before .before .before .before .before .before .before .before .loop in
     answer-lines .kept .1 .1 .1 .0 ∙ loop .inv .2
 
-returns-2 : tie.Need-returns-2 Inv-loop μ-loop
-returns-2 c = tt
-
 read-behind-requires : tie.Need-read-behind-requires Inv-loop μ-loop
 read-behind-requires c κs =
     let answer-lines = c .before .before .before .before .before .before .before .before .before .before .before .before .before .answer-lines in
@@ -86,12 +62,6 @@ read-behind-requires c κs =
 
 add-end : tie.Need-add-end Inv-loop μ-loop
 add-end c = omega (arith, c .before .before .read-behind .ensures)
-
-sub-turns : tie.Need-sub-turns Inv-loop μ-loop
-sub-turns c = omega arith
-
-loop-less : tie.Need-loop-less Inv-loop μ-loop
-loop-less c = omega arith
 
 loop-again : tie.Need-loop-again Inv-loop μ-loop
 loop-again c =
@@ -113,9 +83,6 @@ same-length-5 c = c .before .loop .inv .1
 same-length-6 : tie.Need-same-length-6 Inv-loop μ-loop
 same-length-6 c = c .before .loop .inv .2
 
-returns-3 : tie.Need-returns-3 Inv-loop μ-loop
-returns-3 c = tt
-
 pub answer-input-spec : {M : Type 1} → statement M
 answer-input-spec =
     tie.close
@@ -123,24 +90,24 @@ answer-input-spec =
     Inv-loop
     μ-loop
     loop-holds
-    slice-reshare-prefix-answer-lines
+    (λ c. omega arith)
     slice-aggregate-answer-lines
-    answer-lines-requires
+    (λ c κs. tt)
     write-requires
     same-length
     same-length-2
-    returns
-    slice-relend-prefix-move-to-front
+    (λ c. tt)
+    (λ c. omega arith)
     slice-aggregate-move-to-front
-    move-to-front-requires
+    (λ c κs. tt)
     same-length-3
     same-length-4
-    returns-2
+    (λ c. tt)
     read-behind-requires
     add-end
-    sub-turns
-    loop-less
+    (λ c. omega arith)
+    (λ c. omega arith)
     loop-again
     same-length-5
     same-length-6
-    returns-3)
+    (λ c. tt))
