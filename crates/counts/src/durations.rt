@@ -13,7 +13,7 @@ ghost use mathlib.Core.Path.{_≡_};
 ghost use Rattle.counts.specs.Said.{saidCounted, saidDuration, saidOrdering};
 ghost use Rattle.counts.specs.Counts.{added, taken, since, compared};
 
-// The timestamp that lies a duration later. The seconds wrap, and a result before the old seconds shows an overflow.
+// The timestamp that lies a duration later. The seconds wrap, and a result before the old seconds shows an overflow. The carry is no branch: which way it goes cannot be foretold.
 pub fn add(secs: i64, nanos: u32, dsecs: u64, dnanos: u32) -> Counted
     ensures { λ r. ⌜ saidCounted r ≡ added secs nanos dsecs dnanos ⌝ }
 {
@@ -28,13 +28,11 @@ pub fn add(secs: i64, nanos: u32, dsecs: u64, dnanos: u32) -> Counted
         return Counted::Refused(CountError::NotRepresentable);
     }
     let total = nanos + dnanos;
-    if total < 1000000000 {
-        return Counted::At(sum, total);
+    let carry = (total / 1000000000) as i64;
+    if 9223372036854775807 - carry < sum {
+        return Counted::Refused(CountError::NotRepresentable);
     }
-    if sum < 9223372036854775807 {
-        return Counted::At(sum + 1, total - 1000000000);
-    }
-    Counted::Refused(CountError::NotRepresentable)
+    Counted::At(sum + carry, total % 1000000000)
 }
 
 // The timestamp that lies a duration earlier.
@@ -51,13 +49,12 @@ pub fn sub(secs: i64, nanos: u32, dsecs: u64, dnanos: u32) -> Counted
     if secs < difference {
         return Counted::Refused(CountError::NotRepresentable);
     }
-    if dnanos <= nanos {
-        return Counted::At(difference, nanos - dnanos);
+    let rest = nanos + 1000000000 - dnanos;
+    let borrow = (1 - rest / 1000000000) as i64;
+    if difference < -9223372036854775808 + borrow {
+        return Counted::Refused(CountError::NotRepresentable);
     }
-    if -9223372036854775808 < difference {
-        return Counted::At(difference - 1, nanos + 1000000000 - dnanos);
-    }
-    Counted::Refused(CountError::NotRepresentable)
+    Counted::At(difference - borrow, rest % 1000000000)
 }
 
 // The duration from the second timestamp to the first. The difference of their bits is exact once the first is not earlier.

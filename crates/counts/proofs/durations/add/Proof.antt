@@ -1,11 +1,14 @@
 -- `counts::add`: a wrapped sum below the old seconds is one turn off, any other is exact (`added`).
-use Prim.Native.Nat.{_+_, _*_}
+use mathlib.Core.Path.{_≡_}
+use Prim.Native.Nat.{_+_, _*_, _/_, _≤_}
 use native.Mathlib.Omega.{arith}
 use lib.IntN.{pos, _+ℤ_}
+use mir.Syntax.{w64}
+use mir.Val.{toZ}
 use borrow.Author.Needs.{needs}
 use Rattle.integers.proofs.Signed.{Is, plus, minus}
 use Rattle.counts.specs.Counts.{exact}
-use Rattle.integers.proofs.Machine.{signed, known}
+use Rattle.integers.proofs.Machine.{signed, known, read-pos}
 use Rattle.integers.proofs.Wrapped.{Added, added}
 use Rattle.counts.specs.Counts as Counts
 use Rattle.counts.proofs.Checks.{bad, good}
@@ -18,6 +21,10 @@ facts k = added (k .before .before .before .fits .secs) (search needs) (k .wrapp
 
 law : (s : tie.Start) → let a = s .args in Is (exact (a .secs) (a .nanos) +ℤ exact (pos (a .dsecs)) (a .dnanos)) (plus (a .secs) * 1000000000 + a .nanos + a .dsecs * 1000000000 + a .dnanos) (minus (a .secs) * 1000000000)
 law s = sum-law (s .args .secs) (s .args .nanos) (s .args .dsecs) (s .args .dnanos)
+
+-- the carry, as the machine casts it
+carry : (s : tie.Start) → s .args .nanos ≤ 999999999 → s .args .dnanos ≤ 999999999 → let n = (s .args .nanos + s .args .dnanos) / 1000000000 in (plus (toZ w64 n) ≡ n) × (minus (toZ w64 n) ≡ 0)
+carry s h k = read-pos w64 _ (omega arith)
 
 returns : tie.Need-returns
 unfolding Counts.added
@@ -40,30 +47,34 @@ returns-3 c = let l = law (search) in
 add-total : tie.Need-add-total
 add-total c = search needs
 
+cast-carry : tie.Need-cast-carry
+cast-carry c = search needs
+
+sub-if4 : tie.Need-sub-if4
+sub-if4 c = let k = carry (search) (omega arith) (omega arith) in omega (arith, signed)
+
 returns-4 : tie.Need-returns-4
 unfolding Counts.added
 returns-4 c = let l = law (search) in
     let m = facts (search) in
     let n = m .stays (omega (arith, signed)) in
-    rw (good (c .before .before .before .before .before .args .nanos) (omega arith), good (c .before .before .before .before .before .args .dnanos) (omega arith)) (time-at _ (omega (arith, signed)) (omega arith) (omega (arith, signed)))
+    let k = carry (search) (omega arith) (omega arith) in
+    let o = known (sub-if4 (search)) in
+    rw (good (c .before .before .before .before .before .args .nanos) (omega arith), good (c .before .before .before .before .before .args .dnanos) (omega arith)) (time-none _ (omega (arith, signed)))
 
-add-t11 : tie.Need-add-t11
-add-t11 c = omega (arith, signed, facts (search))
+add-t13 : tie.Need-add-t13
+add-t13 c = let k = carry (search) (omega arith) (omega arith) in
+    let o = known (sub-if4 (search)) in
+    omega (arith, signed, facts (search))
 
 returns-5 : tie.Need-returns-5
 unfolding Counts.added
 returns-5 c = let l = law (search) in
     let m = facts (search) in
     let n = m .stays (omega (arith, signed)) in
-    let o = known (add-t11 c) in
-    rw (good (c .before .before .before .before .before .before .args .nanos) (omega arith), good (c .before .before .before .before .before .before .args .dnanos) (omega arith)) (time-at _ (omega (arith, signed)) (omega arith) (omega (arith, signed)))
-
-returns-6 : tie.Need-returns-6
-unfolding Counts.added
-returns-6 c = let l = law (search) in
-    let m = facts (search) in
-    let n = m .stays (omega (arith, signed)) in
-    rw (good (c .before .before .before .before .before .before .args .nanos) (omega arith), good (c .before .before .before .before .before .before .args .dnanos) (omega arith)) (time-none _ (omega (arith, signed)))
+    let k = carry (search) (omega arith) (omega arith) in
+    let o = known (add-t13 c) in
+    rw (good (c .before .before .before .before .before .args .nanos) (omega arith), good (c .before .before .before .before .before .args .dnanos) (omega arith)) (time-at _ (omega (arith, signed)) (omega arith) (omega (arith, signed)))
 
 pub add-spec : {M : Type 1} → statement M
 add-spec =
@@ -74,7 +85,8 @@ add-spec =
     wrapping-add-unsigned-requires
     returns-3
     add-total
+    cast-carry
+    sub-if4
     returns-4
-    add-t11
-    returns-5
-    returns-6)
+    add-t13
+    returns-5)

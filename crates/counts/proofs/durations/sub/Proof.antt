@@ -1,11 +1,14 @@
 -- `counts::sub`: a wrapped difference above the old seconds is one turn off, any other is exact (`taken`).
-use Prim.Native.Nat.{_+_, _*_}
+use mathlib.Core.Path.{_≡_}
+use Prim.Native.Nat.{_+_, _-_, _*_, _/_}
 use native.Mathlib.Omega.{arith}
 use lib.IntN.{pos, _-ℤ_}
+use mir.Syntax.{w64}
+use mir.Val.{toZ}
 use borrow.Author.Needs.{needs}
 use Rattle.integers.proofs.Signed.{Is, plus, minus}
 use Rattle.counts.specs.Counts.{exact}
-use Rattle.integers.proofs.Machine.{signed, known}
+use Rattle.integers.proofs.Machine.{signed, known, read-pos}
 use Rattle.integers.proofs.Wrapped.{Taken, taken}
 use Rattle.counts.specs.Counts as Counts
 use Rattle.counts.proofs.Checks.{bad, good}
@@ -18,6 +21,10 @@ facts k = taken (k .before .before .before .fits .secs) (search needs) (k .wrapp
 
 law : (s : tie.Start) → let a = s .args in Is (exact (a .secs) (a .nanos) -ℤ exact (pos (a .dsecs)) (a .dnanos)) (plus (a .secs) * 1000000000 + a .nanos + minus (pos (a .dsecs)) * 1000000000) (minus (a .secs) * 1000000000 + plus (pos (a .dsecs)) * 1000000000 + a .dnanos)
 law s = difference-law (s .args .secs) (s .args .nanos) (pos (s .args .dsecs)) (s .args .dnanos)
+
+-- the borrow, as the machine casts it
+borrowed : (s : tie.Start) → let n = 1 - (s .args .nanos + 1000000000 - s .args .dnanos) / 1000000000 in (plus (toZ w64 n) ≡ n) × (minus (toZ w64 n) ≡ 0)
+borrowed s = read-pos w64 _ (omega arith)
 
 returns : tie.Need-returns
 unfolding Counts.taken
@@ -37,36 +44,43 @@ returns-3 c = let l = law (search) in
     let n = m .wraps (omega (arith, signed)) in
     rw (good (c .before .before .before .before .args .nanos) (omega arith), good (c .before .before .before .before .args .dnanos) (omega arith)) (time-none _ (omega (arith, signed)))
 
+add-rest : tie.Need-add-rest
+add-rest c = search needs
+
+sub-rest : tie.Need-sub-rest
+sub-rest c = search needs
+
+sub-borrow : tie.Need-sub-borrow
+sub-borrow c = omega arith
+
+cast-borrow : tie.Need-cast-borrow
+cast-borrow c = search needs
+
+add-if4 : tie.Need-add-if4
+add-if4 c = let k = borrowed (search) in omega (arith, signed)
+
 returns-4 : tie.Need-returns-4
 unfolding Counts.taken
 returns-4 c = let l = law (search) in
     let m = facts (search) in
     let n = m .stays (omega (arith, signed)) in
-    rw (good (c .before .before .before .before .before .args .nanos) (omega arith), good (c .before .before .before .before .before .args .dnanos) (omega arith)) (time-at _ (omega (arith, signed)) (omega arith) (omega (arith, signed)))
+    let k = borrowed (search) in
+    let o = known (add-if4 (search)) in
+    rw (good (c .before .before .before .before .before .args .nanos) (omega arith), good (c .before .before .before .before .before .args .dnanos) (omega arith)) (time-none _ (omega (arith, signed)))
 
-sub-t11 : tie.Need-sub-t11
-sub-t11 c = omega (arith, signed, facts (search))
-
-add-t12 : tie.Need-add-t12
-add-t12 c = search needs
-
-sub-t13 : tie.Need-sub-t13
-sub-t13 c = search needs
+sub-t14 : tie.Need-sub-t14
+sub-t14 c = let k = borrowed (search) in
+    let o = known (add-if4 (search)) in
+    omega (arith, signed, facts (search))
 
 returns-5 : tie.Need-returns-5
 unfolding Counts.taken
 returns-5 c = let l = law (search) in
     let m = facts (search) in
     let n = m .stays (omega (arith, signed)) in
-    let o = known (sub-t11 c) in
-    rw (good (c .before .before .before .before .before .before .args .nanos) (omega arith), good (c .before .before .before .before .before .before .args .dnanos) (omega arith)) (time-at _ (omega (arith, signed)) (omega arith) (omega (arith, signed)))
-
-returns-6 : tie.Need-returns-6
-unfolding Counts.taken
-returns-6 c = let l = law (search) in
-    let m = facts (search) in
-    let n = m .stays (omega (arith, signed)) in
-    rw (good (c .before .before .before .before .before .before .args .nanos) (omega arith), good (c .before .before .before .before .before .before .args .dnanos) (omega arith)) (time-none _ (omega (arith, signed)))
+    let k = borrowed (search) in
+    let o = known (sub-t14 c) in
+    rw (good (c .before .before .before .before .before .args .nanos) (omega arith), good (c .before .before .before .before .before .args .dnanos) (omega arith)) (time-at _ (omega (arith, signed)) (omega arith) (omega (arith, signed)))
 
 pub sub-spec : {M : Type 1} → statement M
 sub-spec =
@@ -76,9 +90,11 @@ sub-spec =
     returns-2
     wrapping-sub-unsigned-requires
     returns-3
+    add-rest
+    sub-rest
+    sub-borrow
+    cast-borrow
+    add-if4
     returns-4
-    sub-t11
-    add-t12
-    sub-t13
-    returns-5
-    returns-6)
+    sub-t14
+    returns-5)
