@@ -116,6 +116,32 @@ rem-bits k (negsuc n) h = neg-bits (suc n % k) (omega (arith, mod-le (suc n) k))
 pub rem-test : {y : ℤ} (k : ℕ) → SFits w64 y → eqb (ofZ w64 (remZ (toZ w64 (ofZ w64 y)) (pos k))) 0 ≡ divides k y
 rem-test {y} k f = ap (λ z. eqb (ofZ w64 (remZ z (pos k))) 0) (toZ-ofZ {w = w64} f) ∙ rem-bits k y (known f .low)
 
-pub leap-by : (y : ℤ) (a b c : Bool) → divides 4 y ≡ a → divides 100 y ≡ b → divides 400 y ≡ c → (a && (not b || c)) ≡ isLeap y
+-- ---- the leap rule by one remainder more: of a century 16 divides what 400 does
+fourth : (n t : ℕ) → t < 4 → n ≡ n / 400 * 400 + t * 100 → n % 16 ≡ 0 → t ≡ 0
+fourth n zero h e k = refl
+fourth n (suc zero) h e k = absurd (omega arith)
+fourth n (suc (suc zero)) h e k = absurd (omega arith)
+fourth n (suc (suc (suc zero))) h e k = absurd (omega arith)
+fourth n (suc (suc (suc (suc t)))) h e k = absurd (omega arith)
+
+pub leap-century : (y : ℤ) → divides 100 y ≡ true → divides 16 y ≡ isLeap y
+unfolding isLeap divides
+leap-century y h =
+    let n = natAbs y in
+    let m = eqb-true (n % 100) 0 h in
+    rw h (go n m (eqb (n % 4) 0) (eqb (n % 400) 0) (eqb (n % 16) 0) refl refl refl)
+  where
+    go : (n : ℕ) → n % 100 ≡ 0 → (a c s : Bool) → eqb (n % 4) 0 ≡ a → eqb (n % 400) 0 ≡ c → eqb (n % 16) 0 ≡ s → s ≡ (a && c)
+    go n m true true true p q r = refl
+    go n m true true false p q r = absurd (eqb-false (n % 16) 0 r (omega (arith, eqb-true (n % 400) 0 q)))
+    go n m true false true p q r = absurd (eqb-false (n % 400) 0 q (omega (arith, fourth n (n / 100 % 4) (omega arith) (omega arith) (eqb-true (n % 16) 0 r))))
+    go n m true false false p q r = refl
+    go n m false c s p q r = absurd (eqb-false (n % 4) 0 p (omega arith))
+
+pub leap-other : (y : ℤ) → divides 100 y ≡ false → divides 4 y ≡ isLeap y
 unfolding isLeap
-leap-by y a b c p q r = rw (p, q, r) refl
+leap-other y h = rw h (same (divides 4 y))
+  where
+    same : (a : Bool) → a ≡ (a && true)
+    same true = refl
+    same false = refl

@@ -16,22 +16,30 @@ use Rattle.calendar.specs.declared.Moment.{Moment}
 use Rattle.calendar.specs.Walk.{isLeap, Valid, walk}
 use Rattle.calendar.specs.Closed.{yearStart, dayOfYear, dayNumber}
 use Rattle.calendar.specs.Moments.{timeAt, momentAt, ValidTime, secondOfDay, secondsOf, EarlierMoment, by-date, by-hour, by-minute, by-second}
-use Rattle.calendar.proofs.Years.{some-length, start-within, start-far}
+use Rattle.calendar.proofs.Years.{some-length, start-near, start-far}
 use Rattle.calendar.proofs.Months.{day-of-year-end}
 use Rattle.calendar.proofs.Walk.{day-law, walk-valid, day-walk, walk-day, walk-order}
 
 -- ---- sizes
-pub day-within : (d : Date) → natAbs (d .year) ≤ 1_000_000_000_000 → Valid d → natAbs (dayNumber d) ≤ 500_000_000_000_000
+pub day-near : (d : Date) → Valid d → natAbs (dayNumber d) ≤ natAbs (d .year) * 368 + 800000
 unfolding dayNumber
-day-within d h v =
+day-near d v =
     let y = yearStart (d .year) in
     let n = pos (dayOfYear d) in
     let z = y +ℤ n -ℤ pos 719528 in
-    omega (arith, start-within (d .year) h, day-of-year-end d v, some-length (isLeap (d .year)), size-law y, size-law z, apart z, add-law y n, diff-law (y +ℤ n) (pos 719528))
+    omega (arith, start-near (d .year), day-of-year-end d v, some-length (isLeap (d .year)), size-law y, size-law z, apart z, add-law y n, diff-law (y +ℤ n) (pos 719528))
 
 pub second-within : (t : Time) → ValidTime t → secondOfDay t < 86400
 unfolding secondOfDay
 second-within t v = omega (arith, v .hour-to, v .minute-to, v .second-to)
+
+pub seconds-near : (m : Moment) → natAbs (m .date .year) ≤ 10_000_000_000 → Valid (m .date) → ValidTime (m .time) → natAbs (secondsOf m) ≤ 400_000_000_000_000_000
+unfolding secondsOf
+seconds-near m h v t =
+    let y = dayNumber (m .date) in
+    let n = pos (secondOfDay (m .time)) in
+    let z = y *ℤ pos 86400 +ℤ n in
+    omega (arith, day-near (m .date) v, second-within (m .time) t, size-law y, size-law z, apart z, times-law y 86400, add-law (y *ℤ pos 86400) n)
 
 -- ---- the time of day
 time-valid : (n : ℕ) → n < 86400 → ValidTime (timeAt n)

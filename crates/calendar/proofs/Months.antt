@@ -1,8 +1,8 @@
--- The months of a year: sums of their lengths, and the tables that hold them.
+-- The months of a year: sums of their lengths, and the arithmetic that gives both.
 use mathlib.Core.Path.{_≡_, refl, ap, _∙_}
-use mathlib.Core.Bool.{Bool, true, false}
+use mathlib.Core.Bool.{Bool, true, false, cond}
 use mathlib.Core.List.{List, [], _∷_}
-use Prim.Native.Nat.{ℕ, zero, suc, _+_, _*_, _-_, _≤_, _<_}
+use Prim.Native.Nat.{ℕ, zero, suc, _+_, _*_, _-_, _/_, _%_, _≤_, _<_}
 use native.Mathlib.Omega.{arith}
 use lib.Dec.{eqb, leb, ltb, eqb→eq, leb→le, ltb→lt}
 use lib.IntN.{ℤ}
@@ -55,7 +55,7 @@ pub length-some : (year : ℤ) (month : ℕ) → 1 ≤ month → month ≤ 12 �
 unfolding monthLength
 length-some year month h l = month-some (isLeap year) (month - 1) (omega arith)
 
--- the code's second table, and its rule
+-- the sums, listed
 unfoldable pub doyRow : Bool → List ℕ
 doyRow false = 0 ∷ 31 ∷ 59 ∷ 90 ∷ 120 ∷ 151 ∷ 181 ∷ 212 ∷ 243 ∷ 273 ∷ 304 ∷ 334 ∷ 365 ∷ []
 doyRow true = 0 ∷ 31 ∷ 60 ∷ 91 ∷ 121 ∷ 152 ∷ 182 ∷ 213 ∷ 244 ∷ 274 ∷ 305 ∷ 335 ∷ 366 ∷ []
@@ -74,14 +74,20 @@ doy-low leap k h = omega (arith, doy-is leap k h, low leap)
     low true = leb→le _ _ (at (λ i x. leb x (32 * i)) (doyRow true) tt k (omega arith))
     low false = leb→le _ _ (at (λ i x. leb x (32 * i)) (doyRow false) tt k (omega arith))
 
--- a table of two rows, indexed by a flag
+-- ---- the code's arithmetic, by the same tests
 pub flag : (b : Bool) → boolByte b < 2
 flag true = omega arith
 flag false = omega arith
 
-pub rows : (r : Bool → List ℕ) (b : Bool) (k : ℕ) → getD (getD (r false ∷ r true ∷ []) (boolByte b) []) k 0 ≡ getD (r b) k 0
-rows r true k = refl
-rows r false k = refl
+pub length-rule : (leap : Bool) (k : ℕ) → k < 12 → cond (eqb k 1) (28 + boolByte leap) (30 + (k + 1 + (k + 1) / 8) % 2) ≡ getD (monthRow leap) k 0
+unfolding monthRow
+length-rule true k h = eqb→eq _ _ (at (λ i x. eqb (cond (eqb i 1) 29 (30 + (i + 1 + (i + 1) / 8) % 2)) x) (monthRow true) tt k h)
+length-rule false k h = eqb→eq _ _ (at (λ i x. eqb (cond (eqb i 1) 28 (30 + (i + 1 + (i + 1) / 8) % 2)) x) (monthRow false) tt k h)
+
+pub start-rule : (leap : Bool) (k : ℕ) → k ≤ 12 → cond (ltb k 2) ((k * 489 + 8) / 16) ((k * 489 + 8) / 16 - 2 + boolByte leap) ≡ sumTo (monthRow leap) k
+unfolding doyRow
+start-rule true k h = eqb→eq _ _ (at (λ i x. eqb (cond (ltb i 2) ((i * 489 + 8) / 16) ((i * 489 + 8) / 16 - 2 + 1)) x) (doyRow true) tt k (omega arith)) ∙ doy-is true k h
+start-rule false k h = eqb→eq _ _ (at (λ i x. eqb (cond (ltb i 2) ((i * 489 + 8) / 16) ((i * 489 + 8) / 16 - 2 + 0)) x) (doyRow false) tt k (omega arith)) ∙ doy-is false k h
 
 -- ---- the day of the year
 pub month-end : (d : Date) → 1 ≤ d .month → sumTo (monthRow (isLeap (d .year))) (d .month) ≡ sumTo (monthRow (isLeap (d .year))) (d .month - 1) + monthLength (d .year) (d .month)

@@ -129,12 +129,12 @@ pub start-up-suc : (n : ℕ) → startUp (suc n) ≡ startUp n + yearLength (isL
 start-up-suc n = omega (arith, ap plus (start-up (suc n)), ap minus (start-up (suc n)), ap plus (start-up n), ap minus (start-up n), start-step (pos n))
 
 -- a year's start is not far from its number
-pub start-within : (y : ℤ) → natAbs y ≤ 1_000_000_000_000 → natAbs (yearStart y) ≤ 400_000_000_000_000
-start-within y h =
-    within (yearStart y) (plus y) (minus y) _ _ _ _ _ _ (start-law y) (div-le-self _ 4) (div-le-self _ 100) (div-le-self _ 400) (div-le-self _ 4) (div-le-self _ 100) (div-le-self _ 400) (omega (arith, size-law y))
+pub start-near : (y : ℤ) → natAbs (yearStart y) ≤ natAbs y * 368 + 800
+start-near y =
+    near (yearStart y) (plus y) (minus y) _ _ _ _ _ _ (start-law y) (div-le-self _ 4) (div-le-self _ 100) (div-le-self _ 400) (div-le-self _ 4) (div-le-self _ 100) (div-le-self _ 400) (size-law y)
   where
-    within : (z : ℤ) (p m a b c d e f : ℕ) → Is z (p * 365 + a + e + c) (m * 365 + d + b + f) → a ≤ p + 3 → b ≤ p + 99 → c ≤ p + 399 → d ≤ m → e ≤ m → f ≤ m → p + m ≤ 1_000_000_000_000 → natAbs z ≤ 400_000_000_000_000
-    within z p m a b c d e f i h₁ h₂ h₃ h₄ h₅ h₆ l = omega (arith, size-law z, apart z)
+    near : (z : ℤ) (p m a b c d e f : ℕ) {n : ℕ} → Is z (p * 365 + a + e + c) (m * 365 + d + b + f) → a ≤ p + 3 → b ≤ p + 99 → c ≤ p + 399 → d ≤ m → e ≤ m → f ≤ m → n ≡ p + m → natAbs z ≤ n * 368 + 800
+    near z p m a b c d e f i h₁ h₂ h₃ h₄ h₅ h₆ l = omega (arith, size-law z, apart z)
 
 -- and no year's start is much nearer
 pub start-far : (y : ℤ) → natAbs y * 364 ≤ natAbs (yearStart y) + 800

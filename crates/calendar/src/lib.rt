@@ -30,43 +30,41 @@ pub struct Moment {
     pub time: Time,
 }
 
-// The month lengths, in common years and in leap years.
-const DAYS_IN_MONTH: [[u8; 12]; 2] = [
-    [31, 28, 31, 30, 31, 30, 31, 31, 30, 31, 30, 31],
-    [31, 29, 31, 30, 31, 30, 31, 31, 30, 31, 30, 31],
-];
-
-// The days of the year before each month, and all of them.
-const DOY_AT_MONTH: [[u32; 13]; 2] = [
-    [0, 31, 59, 90, 120, 151, 181, 212, 243, 273, 304, 334, 365],
-    [0, 31, 60, 91, 121, 152, 182, 213, 244, 274, 305, 335, 366],
-];
-
 // The seconds of 400 years.
 const CYCLE_SECS: u64 = 12622780800;
 
+// A century year is leap where 400 divides it, and hence 16 does: one remainder by 100 is enough.
 pub fn is_leap(year: i64) -> bool
     ensures { λ r. ⌜ r ≡ isLeap year ⌝ }
 {
-    year % 4 == 0 && (year % 100 != 0 || year % 400 == 0)
+    if year % 100 == 0 {
+        return year % 16 == 0;
+    }
+    year % 4 == 0
 }
 
+// But for February the lengths alternate, and start anew with August.
 pub fn days_in_month(year: i64, month: u8) -> u8
     requires { ⌜ (1 ≤ month) × (month ≤ 12) ⌝ }
     ensures { λ r. ⌜ r ≡ monthLength year month ⌝ }
 {
-    let leap = is_leap(year) as usize;
-    let index = (month - 1) as usize;
-    DAYS_IN_MONTH[leap][index]
+    let leap = is_leap(year) as u8;
+    if month == 2 {
+        return 28 + leap;
+    }
+    30 + (month + month / 8) % 2
 }
 
-// The days of a year before a month that is counted from 0.
+// The days of a year before a month that is counted from 0: months of 489/16 days, less what February lacks of 30.
 fn doy_at_month(leap: bool, index: usize) -> u32
     requires { ⌜ index ≤ 12 ⌝ }
     ensures { λ r. ⌜ r ≡ sumTo (monthRow leap) index ⌝ }
 {
-    let row = leap as usize;
-    DOY_AT_MONTH[row][index]
+    let even = (index as u32 * 489 + 8) / 16;
+    if index < 2 {
+        return even;
+    }
+    even - 2 + leap as u32
 }
 
 // The day of the year, from 0.
@@ -98,17 +96,15 @@ pub fn month_and_day_of_month(year: i64, doy: u32) -> MonthDay
     }
 }
 
-// The days from the first day of year 0 to that of the year. The quotients of a year below 0 round toward zero.
+// The days from the first day of year 0 to that of the year. Leap years are counted from 2,500,000,000 cycles before year 0, so that no year is below 0.
 pub fn days_from_year_0(year: i64) -> i64
     requires { ⌜ natAbs year ≤ 1_000_000_000_000 ⌝ }
     ensures { λ r. ⌜ r ≡ yearStart year ⌝ }
 {
-    let offset = (year > 0) as i64;
-    let y = year - offset;
-    let m4 = y / 4 + offset;
-    let m100 = y / 100;
-    let m400 = m100 / 4;
-    year * 365 + m4 - m100 + m400
+    let y = (year + 1000000000000) as u64;
+    let m100 = (y + 99) / 100;
+    let leap_years = (y + 3) / 4 - m100 + (m100 + 3) / 4;
+    year * 365 + leap_years as i64 - 242500000000
 }
 
 // A year of the 400-year cycle, and the day of that year, from 0.
@@ -212,6 +208,16 @@ fn second_of_day(t: Time) -> u64
     ensures { λ r. ⌜ r ≡ secondOfDay t ⌝ }
 {
     t.hour as u64 * 3600 + t.minute as u64 * 60 + t.second as u64
+}
+
+// The seconds at a moment, where the year is so near that an i64 holds them.
+pub fn secs_from_1970(m: Moment) -> i64
+    requires { ⌜ (natAbs (m .date .year) ≤ 10_000_000_000) × Valid (m .date) × ValidTime (m .time) ⌝ }
+    ensures { λ r. ⌜ r ≡ secondsOf m ⌝ }
+{
+    let date = m.date;
+    let time = m.time;
+    day_of_date(date) * 86400 + second_of_day(time) as i64
 }
 
 // The count of a moment over an epoch, decided on the exact sum: the moment's own seconds need not fit.

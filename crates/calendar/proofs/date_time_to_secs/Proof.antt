@@ -12,7 +12,7 @@ use Rattle.integers.proofs.Machine.{known, known64}
 use Rattle.integers.proofs.Floor.{PartsOf, of-split, of-sub, whole-of, proper}
 use Rattle.calendar.specs.Closed.{dayNumber}
 use Rattle.calendar.specs.Moments.{secondsOf}
-use Rattle.calendar.proofs.Moments.{day-within, second-within}
+use Rattle.calendar.proofs.Moments.{day-near, second-within}
 use Rattle.calendar.proofs.date_time_to_secs.Statement.{statement}
 use Rattle.calendar.proofs.date_time_to_secs.Tie as tie
 
@@ -32,7 +32,7 @@ module _ (k : tie.After-second-of-day) where
   proper-moment : Proper 86400 (record { quotient = toZ w64 (ofZ w64 (k .before .day-of-date .result)); rest = k .second-of-day .result })
   proper-moment =
       let s = k .before .before .before .before in
-      record { small = small; divisor = omega arith; quotient = omega (arith, ap natAbs (day-is (k .before)), day-within (s .args .m .date) (s .pre .0) (s .pre .1)) }
+      record { small = small; divisor = omega arith; quotient = omega (arith, ap natAbs (day-is (k .before)), day-near (s .args .m .date) (s .pre .1), s .pre .0) }
 
 day-of-date-requires : tie.Need-day-of-date-requires
 day-of-date-requires c κs = search needs

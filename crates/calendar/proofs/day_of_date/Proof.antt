@@ -11,7 +11,7 @@ use Rattle.integers.proofs.Machine.{Small, small-size, small-add, small-sub, sm
 use Rattle.calendar.specs.declared.Date.{Date}
 use Rattle.calendar.specs.Walk.{isLeap, Valid}
 use Rattle.calendar.specs.Closed.{yearStart, dayOfYear, dayNumber}
-use Rattle.calendar.proofs.Years.{some-length, start-within}
+use Rattle.calendar.proofs.Years.{some-length, start-near}
 use Rattle.calendar.proofs.Months.{day-of-year-end}
 use Rattle.calendar.proofs.day_of_date.Statement.{statement}
 use Rattle.calendar.proofs.day_of_date.Tie as tie
@@ -28,7 +28,7 @@ fit : (d : Date) (z : ℤ) (n : ℕ) → natAbs (d .year) ≤ 1_000_000_000_000 
 unfolding dayNumber
 fit d z n h v e f =
     let k : n < 366 = omega (arith, day-of-year-end d v, some-length (isLeap (d .year))) in
-    let a : Small 400_000_000_000_000 z = small-size (subst (λ x. natAbs x ≤ 400_000_000_000_000) (sym e) (start-within (d .year) h)) in
+    let a : Small 400_000_000_000_000 z = small-size (subst (λ x. natAbs x ≤ 400_000_000_000_000) (sym e) (omega (arith, start-near (d .year)))) in
     let b = small-add a (small-pos {b = 366} n (omega arith)) in
     record { start = small-fits tt a; day = toZ-pos w64 (omega arith); s₁ = small-fits tt b; s₂ = small-fits tt (small-sub b (small-pos {b = 719528} 719528 (omega arith))); is = ap (λ x. x +ℤ pos n -ℤ pos 719528) e ∙ ap (λ x. yearStart (d .year) +ℤ pos x -ℤ pos 719528) f }
 
