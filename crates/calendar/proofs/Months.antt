@@ -1,8 +1,8 @@
--- The months of a year: sums of their lengths, and the arithmetic that gives both.
+-- The months of a year: sums of their lengths, the table of these and the arithmetic of those.
 use mathlib.Core.Path.{_≡_, refl, ap, _∙_}
 use mathlib.Core.Bool.{Bool, true, false, cond}
 use mathlib.Core.List.{List, [], _∷_}
-use Prim.Native.Nat.{ℕ, zero, suc, _+_, _*_, _-_, _/_, _%_, _≤_, _<_}
+use Prim.Native.Nat.{ℕ, zero, suc, _+_, _*_, _-_, _/_, _≤_, _<_}
 use native.Mathlib.Omega.{arith}
 use lib.Dec.{eqb, leb, ltb, eqb→eq, leb→le, ltb→lt}
 use lib.IntN.{ℤ}
@@ -41,19 +41,21 @@ year-sum true = refl
 year-sum false = refl
 
 -- ---- rules of the rows, each by one test over all entries
-pub month-some : (leap : Bool) (k : ℕ) → k < 12 → 1 ≤ getD (monthRow leap) k 0
-unfolding monthRow
-month-some true k h = ltb→lt 0 _ (at (λ i x. ltb 0 x) (monthRow true) tt k h)
-month-some false k h = ltb→lt 0 _ (at (λ i x. ltb 0 x) (monthRow false) tt k h)
-
 pub month-top : (leap : Bool) (k : ℕ) → k < 12 → getD (monthRow leap) k 0 ≤ 31
 unfolding monthRow
 month-top true k h = leb→le _ 31 (at (λ i x. leb x 31) (monthRow true) tt k h)
 month-top false k h = leb→le _ 31 (at (λ i x. leb x 31) (monthRow false) tt k h)
 
+pub length-low : (year : ℤ) (month : ℕ) → 1 ≤ month → month ≤ 12 → 28 ≤ monthLength year month
+unfolding monthRow monthLength
+length-low year month h l = low (isLeap year)
+  where
+    low : (leap : Bool) → 28 ≤ getD (monthRow leap) (month - 1) 0
+    low true = leb→le 28 _ (at (λ i x. leb 28 x) (monthRow true) tt (month - 1) (omega arith))
+    low false = leb→le 28 _ (at (λ i x. leb 28 x) (monthRow false) tt (month - 1) (omega arith))
+
 pub length-some : (year : ℤ) (month : ℕ) → 1 ≤ month → month ≤ 12 → 1 ≤ monthLength year month
-unfolding monthLength
-length-some year month h l = month-some (isLeap year) (month - 1) (omega arith)
+length-some year month h l = omega (arith, length-low year month h l)
 
 -- the sums, listed
 unfoldable pub doyRow : Bool → List ℕ
@@ -74,16 +76,16 @@ doy-low leap k h = omega (arith, doy-is leap k h, low leap)
     low true = leb→le _ _ (at (λ i x. leb x (32 * i)) (doyRow true) tt k (omega arith))
     low false = leb→le _ _ (at (λ i x. leb x (32 * i)) (doyRow false) tt k (omega arith))
 
--- ---- the code's arithmetic, by the same tests
+-- a table of two rows, indexed by a flag
 pub flag : (b : Bool) → boolByte b < 2
 flag true = omega arith
 flag false = omega arith
 
-pub length-rule : (leap : Bool) (k : ℕ) → k < 12 → cond (eqb k 1) (28 + boolByte leap) (30 + (k + 1 + (k + 1) / 8) % 2) ≡ getD (monthRow leap) k 0
-unfolding monthRow
-length-rule true k h = eqb→eq _ _ (at (λ i x. eqb (cond (eqb i 1) 29 (30 + (i + 1 + (i + 1) / 8) % 2)) x) (monthRow true) tt k h)
-length-rule false k h = eqb→eq _ _ (at (λ i x. eqb (cond (eqb i 1) 28 (30 + (i + 1 + (i + 1) / 8) % 2)) x) (monthRow false) tt k h)
+pub rows : (r : Bool → List ℕ) (b : Bool) (k : ℕ) → getD (getD (r false ∷ r true ∷ []) (boolByte b) []) k 0 ≡ getD (r b) k 0
+rows r true k = refl
+rows r false k = refl
 
+-- the code's arithmetic for the sums
 pub start-rule : (leap : Bool) (k : ℕ) → k ≤ 12 → cond (ltb k 2) ((k * 489 + 8) / 16) ((k * 489 + 8) / 16 - 2 + boolByte leap) ≡ sumTo (monthRow leap) k
 unfolding doyRow
 start-rule true k h = eqb→eq _ _ (at (λ i x. eqb (cond (ltb i 2) ((i * 489 + 8) / 16) ((i * 489 + 8) / 16 - 2 + 1)) x) (doyRow true) tt k (omega arith)) ∙ doy-is true k h

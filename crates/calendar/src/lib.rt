@@ -7,6 +7,7 @@ use integers::floor_split;
 use integers::sub_parts;
 ghost use mathlib.Core.Path.{_≡_};
 ghost use Prim.Native.Nat.{_≤_, _<_};
+ghost use lib.Dec.{leb};
 ghost use lib.IntN.{natAbs, pos, _+ℤ_, _-ℤ_, _*ℤ_};
 ghost use Rattle.integers.specs.Integers.{checked};
 ghost use Rattle.calendar.specs.Walk.{isLeap, monthRow, monthLength, Valid, date, walk};
@@ -30,6 +31,12 @@ pub struct Moment {
     pub time: Time,
 }
 
+// The month lengths, in common years and in leap years.
+const DAYS_IN_MONTH: [[u8; 12]; 2] = [
+    [31, 28, 31, 30, 31, 30, 31, 31, 30, 31, 30, 31],
+    [31, 29, 31, 30, 31, 30, 31, 31, 30, 31, 30, 31],
+];
+
 // The seconds of 400 years.
 const CYCLE_SECS: u64 = 12622780800;
 
@@ -43,16 +50,24 @@ pub fn is_leap(year: i64) -> bool
     year % 4 == 0
 }
 
-// But for February the lengths alternate, and start anew with August.
 pub fn days_in_month(year: i64, month: u8) -> u8
     requires { ⌜ (1 ≤ month) × (month ≤ 12) ⌝ }
     ensures { λ r. ⌜ r ≡ monthLength year month ⌝ }
 {
-    let leap = is_leap(year) as u8;
-    if month == 2 {
-        return 28 + leap;
+    let leap = is_leap(year) as usize;
+    let index = (month - 1) as usize;
+    DAYS_IN_MONTH[leap][index]
+}
+
+// Whether a month has the day. Every month has 28, so few days are looked up.
+pub fn is_day_of_month(year: i64, month: u8, day: u8) -> bool
+    requires { ⌜ (1 ≤ month) × (month ≤ 12) ⌝ }
+    ensures { λ r. ⌜ r ≡ leb day (monthLength year month) ⌝ }
+{
+    if day <= 28 {
+        return true;
     }
-    30 + (month + month / 8) % 2
+    day <= days_in_month(year, month)
 }
 
 // The days of a year before a month that is counted from 0: months of 489/16 days, less what February lacks of 30.

@@ -32,7 +32,7 @@ pub fn near_secs(
     if day < 1 {
         return Checked::Outside;
     }
-    if calendar::days_in_month(year, month) < day {
+    if !calendar::is_day_of_month(year, month, day) {
         return Checked::Outside;
     }
     if 23 < hour {

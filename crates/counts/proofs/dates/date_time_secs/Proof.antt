@@ -1,5 +1,5 @@
 -- `counts::date_time_secs`: at each way out the tests before it were passed, in 01's order.
-use mathlib.Core.Path.{_≡_, ap, _∙_}
+use mathlib.Core.Path.{_≡_, refl, sym, ap, _∙_}
 use native.Mathlib.Omega.{arith}
 use lib.IntN.{_-ℤ_}
 use mir.Facts.{toZ-ofZ}
@@ -9,10 +9,11 @@ use borrow.Author.Tests.{le-leb, lt-leb}
 use borrow.Author.Needs.{needs}
 use Rattle.integers.specs.Integers.{checked}
 use Rattle.errors.specs.Refusals.{gives}
-use Rattle.calendar.specs.Walk.{monthLength, date}
-use Rattle.calendar.specs.Moments.{secondsOf}
+use Rattle.calendar.specs.Walk.{monthLength, date, Valid}
+use Rattle.calendar.specs.Moments.{ValidTime, secondsOf}
 use Rattle.counts.specs.Counts.{dateTimeSecs}
-use Rattle.counts.proofs.Checks.{bad, good, outside, inside, value}
+use Rattle.counts.proofs.Checks.{bad, outside, inside, value}
+use Rattle.counts.proofs.Fields.{good-fields}
 use Rattle.counts.proofs.dates.date_time_secs.Statement.{statement}
 use Rattle.counts.proofs.dates.date_time_secs.Tie as tie
 
@@ -64,9 +65,16 @@ returns-8 : tie.Need-returns-8
 unfolding dateTimeSecs
 returns-8 c = rw (le-leb 1 (c .before .before .before .before .before .before .before .before .before .args .month) (omega arith), le-leb (c .before .before .before .before .before .before .before .before .before .args .month) 12 (omega arith), le-leb 1 (c .before .before .before .before .before .before .before .before .before .args .day) (omega arith), le-leb (c .before .before .before .before .before .before .before .before .before .args .day) (monthLength (c .before .before .before .before .before .before .before .before .before .args .year) (c .before .before .before .before .before .before .before .before .before .args .month)) (omega (arith, length (search))), le-leb (c .before .before .before .before .before .before .before .before .before .args .hour) 23 (omega arith), le-leb (c .before .before .before .before .before .before .before .before .before .args .min) 59 (omega arith), le-leb (c .before .before .before .before .before .before .before .before .before .args .sec) 59 (omega arith), bad (c .before .before .before .before .before .before .before .before .before .args .nano) (omega arith))
 
+-- what the tests have shown
+module _ (k : tie.Else8) where
+  valid : Valid (date (k .before .before .before .before .before .before .before .before .before .args .year) (k .before .before .before .before .before .before .before .before .before .args .month) (k .before .before .before .before .before .before .before .before .before .args .day))
+  valid = record { month-from = omega arith; month-to = omega arith; day-from = omega arith; day-to = omega (arith, length (search)) }
+
+  valid-time : ValidTime (record { hour = k .before .before .before .before .before .before .before .before .before .args .hour; minute = k .before .before .before .before .before .before .before .before .before .args .min; second = k .before .before .before .before .before .before .before .before .before .args .sec })
+  valid-time = record { hour-to = omega arith; minute-to = omega arith; second-to = omega arith }
+
 date-time-to-secs-requires : tie.Need-date-time-to-secs-requires
-date-time-to-secs-requires c κs = let f = c .before .before .before .before .before .before .before .before .before .fits .year in
-    simp toZ-ofZ (c .before .before .before .before .before .before .before .before .before .pre, record { month-from = omega arith; month-to = omega arith; day-from = omega arith; day-to = omega (arith, length (search)) }, record { hour-to = omega arith; minute-to = omega arith; second-to = omega arith })
+date-time-to-secs-requires c κs = let f = c .before .before .before .before .before .before .before .before .before .fits .year in simp toZ-ofZ (c .before .before .before .before .before .before .before .before .before .pre, valid c, valid-time c)
 
 enum-known-secs : tie.Need-enum-known-secs
 enum-known-secs c = search needs
@@ -75,13 +83,12 @@ enum-told : tie.Need-enum-told
 enum-told c = search needs
 
 returns-9 : tie.Need-returns-9
-unfolding dateTimeSecs
 returns-9 c = let f : SFits w64 (c .before .secs .given .0 .0) = search needs in
-    rw (le-leb 1 (c .before .before .before .before .before .before .before .before .before .before .before .before .before .args .month) (omega arith), le-leb (c .before .before .before .before .before .before .before .before .before .before .before .before .before .args .month) 12 (omega arith), le-leb 1 (c .before .before .before .before .before .before .before .before .before .before .before .before .before .args .day) (omega arith), le-leb (c .before .before .before .before .before .before .before .before .before .before .before .before .before .args .day) (monthLength (c .before .before .before .before .before .before .before .before .before .before .before .before .before .args .year) (c .before .before .before .before .before .before .before .before .before .before .before .before .before .args .month)) (omega (arith, length (search))), le-leb (c .before .before .before .before .before .before .before .before .before .before .before .before .before .args .hour) 23 (omega arith), le-leb (c .before .before .before .before .before .before .before .before .before .before .before .before .before .args .min) 59 (omega arith), le-leb (c .before .before .before .before .before .before .before .before .before .before .before .before .before .args .sec) 59 (omega arith), good (c .before .before .before .before .before .before .before .before .before .before .before .before .before .args .nano) (omega arith), inside _ (counted (search)) (c .before .secs .given .1)) (ap gives (toZ-ofZ {w = w64} f ∙ value _ (counted (search)) (c .before .secs .given .1)))
+    let e = c .before .secs .given .1 in
+    ap gives (toZ-ofZ {w = w64} f ∙ value _ (counted (search)) e) ∙ sym (good-fields _ _ _ _ _ _ _ _ (valid (search)) (valid-time (search)) (omega arith) ∙ rw (inside _ (counted (search)) e) refl)
 
 returns-10 : tie.Need-returns-10
-unfolding dateTimeSecs
-returns-10 c = rw (le-leb 1 (c .before .before .before .before .before .before .before .before .before .before .before .before .args .month) (omega arith), le-leb (c .before .before .before .before .before .before .before .before .before .before .before .before .args .month) 12 (omega arith), le-leb 1 (c .before .before .before .before .before .before .before .before .before .before .before .before .args .day) (omega arith), le-leb (c .before .before .before .before .before .before .before .before .before .before .before .before .args .day) (monthLength (c .before .before .before .before .before .before .before .before .before .before .before .before .args .year) (c .before .before .before .before .before .before .before .before .before .before .before .before .args .month)) (omega (arith, length (search))), le-leb (c .before .before .before .before .before .before .before .before .before .before .before .before .args .hour) 23 (omega arith), le-leb (c .before .before .before .before .before .before .before .before .before .before .before .before .args .min) 59 (omega arith), le-leb (c .before .before .before .before .before .before .before .before .before .before .before .before .args .sec) 59 (omega arith), good (c .before .before .before .before .before .before .before .before .before .before .before .before .args .nano) (omega arith), outside _ (counted (search)) (c .enum-told .given .1))
+returns-10 c = sym (good-fields _ _ _ _ _ _ _ _ (valid (search)) (valid-time (search)) (omega arith) ∙ rw (outside _ (counted (search)) (c .enum-told .given .1)) refl)
 
 pub date-time-secs-spec : {M : Type 1} → statement M
 date-time-secs-spec =

@@ -2,10 +2,12 @@
 use mathlib.Core.Path.{_≡_, ap, sym, subst, _∙_}
 use Prim.Native.Nat.{_≤_}
 use native.Mathlib.Omega.{arith}
+use lib.Dec.{leb}
 use lib.IntN.{_-ℤ_, natAbs}
 use mir.Facts.{toZ-ofZ}
 use mir.Syntax.{w64}
 use mir.Val.{SFits}
+use borrow.Author.Tests.{leb-true, not-false}
 use borrow.Author.Needs.{needs}
 use Rattle.integers.proofs.Signed.{size-law}
 use Rattle.integers.proofs.Machine.{signed, known, known64}
@@ -19,15 +21,15 @@ use Rattle.counts.proofs.Fields.{good-fields}
 use Rattle.counts.proofs.near.near_secs.Statement.{statement}
 use Rattle.counts.proofs.near.near_secs.Tie as tie
 
-length : (k : tie.After-days-in-month) → let a = k .before .before .before .before .args in k .days-in-month .result ≡ monthLength (a .year) (a .month)
+length : (k : tie.Else4) → let a = k .before .before .before .before .before .args in a .day ≤ monthLength (a .year) (a .month)
 length k =
-    let s = k .before .before .before .before in
-    k .days-in-month .ensures ∙ ap (λ y. monthLength y (s .args .month)) (toZ-ofZ {w = w64} (s .fits .year))
+    let s = k .before .before .before .before .before in
+    leb-true (s .args .day) _ (sym (k .before .is-day-of-month .ensures ∙ ap (λ y. leb (s .args .day) (monthLength y (s .args .month))) (toZ-ofZ {w = w64} (s .fits .year))) ∙ not-false _ (k .if4 .left))
 
 -- what the tests have shown
 module _ (k : tie.Else10) where
   valid : Valid (date (k .before .before .before .before .before .before .before .before .before .before .before .args .year) (k .before .before .before .before .before .before .before .before .before .before .before .args .month) (k .before .before .before .before .before .before .before .before .before .before .before .args .day))
-  valid = record { month-from = omega arith; month-to = omega arith; day-from = omega arith; day-to = omega (arith, length (search)) }
+  valid = record { month-from = omega arith; month-to = omega arith; day-from = omega arith; day-to = length (search) }
 
   valid-time : ValidTime (record { hour = k .before .before .before .before .before .before .before .before .before .before .before .args .hour; minute = k .before .before .before .before .before .before .before .before .before .before .before .args .min; second = k .before .before .before .before .before .before .before .before .before .before .before .args .sec })
   valid-time = record { hour-to = omega arith; minute-to = omega arith; second-to = omega arith }
@@ -41,8 +43,8 @@ returns-2 c secs e = absurd (no-sum e)
 returns-3 : tie.Need-returns-3
 returns-3 c secs e = absurd (no-sum e)
 
-days-in-month-requires : tie.Need-days-in-month-requires
-days-in-month-requires c κs = search needs
+is-day-of-month-requires : tie.Need-is-day-of-month-requires
+is-day-of-month-requires c κs = search needs
 
 returns-4 : tie.Need-returns-4
 returns-4 c secs e = absurd (no-sum e)
@@ -95,7 +97,7 @@ near-secs-spec =
     returns
     returns-2
     returns-3
-    days-in-month-requires
+    is-day-of-month-requires
     returns-4
     returns-5
     returns-6
