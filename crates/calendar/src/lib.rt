@@ -6,7 +6,7 @@ use integers::floor_join;
 use integers::floor_split;
 use integers::sub_parts;
 ghost use mathlib.Core.Path.{_≡_};
-ghost use Prim.Native.Nat.{_≤_, _<_};
+ghost use Prim.Native.Nat.{_+_, _-_, _/_, _≤_, _<_};
 ghost use lib.Dec.{leb};
 ghost use lib.IntN.{natAbs, pos, _+ℤ_, _-ℤ_, _*ℤ_};
 ghost use Rattle.integers.specs.Integers.{checked};
@@ -111,15 +111,22 @@ pub fn month_and_day_of_month(year: i64, doy: u32) -> MonthDay
     }
 }
 
+// The leap years among the first years of a cycle, or of several.
+fn leap_years(years: u64) -> u64
+    requires { ⌜ years ≤ 2_000_000_000_000 ⌝ }
+    ensures { λ r. ⌜ r ≡ (years + 3) / 4 - (years + 99) / 100 + (years + 399) / 400 ⌝ }
+{
+    let m100 = (years + 99) / 100;
+    (years + 3) / 4 - m100 + (m100 + 3) / 4
+}
+
 // The days from the first day of year 0 to that of the year. Leap years are counted from 2,500,000,000 cycles before year 0, so that no year is below 0.
 pub fn days_from_year_0(year: i64) -> i64
     requires { ⌜ natAbs year ≤ 1_000_000_000_000 ⌝ }
     ensures { λ r. ⌜ r ≡ yearStart year ⌝ }
 {
-    let y = (year + 1000000000000) as u64;
-    let m100 = (y + 99) / 100;
-    let leap_years = (y + 3) / 4 - m100 + (m100 + 3) / 4;
-    year * 365 + leap_years as i64 - 242500000000
+    let years = (year + 1000000000000) as u64;
+    year * 365 + leap_years(years) as i64 - 242500000000
 }
 
 // A year of the 400-year cycle, and the day of that year, from 0.
