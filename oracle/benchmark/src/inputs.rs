@@ -14,6 +14,9 @@ pub const CALLS: usize = 16_384;
 const FIRST: i64 = -378_691_200;
 const END: i64 = 4_133_980_800;
 
+/// Every day of a common year may be drawn.
+const DAYS_IN_MONTH: [u64; 12] = [31, 28, 31, 30, 31, 30, 31, 31, 30, 31, 30, 31];
+
 pub struct Inputs {
     pub stamps: Vec<Timestamp>,
     pub times: Vec<MonotonicTime>,
@@ -33,14 +36,17 @@ impl Inputs {
             })
             .collect();
         let dates = (0..CALLS)
-            .map(|_| DateTime {
-                year: 1958 + random.below(143) as i32,
-                month: 1 + random.below(12) as u8,
-                day: 1 + random.below(28) as u8,
-                hour: random.below(24) as u8,
-                min: random.below(60) as u8,
-                sec: random.below(60) as u8,
-                nano: nanos(&mut random),
+            .map(|_| {
+                let month = random.below(12);
+                DateTime {
+                    year: 1958 + random.below(143) as i32,
+                    month: 1 + month as u8,
+                    day: 1 + random.below(DAYS_IN_MONTH[month as usize]) as u8,
+                    hour: random.below(24) as u8,
+                    min: random.below(60) as u8,
+                    sec: random.below(60) as u8,
+                    nano: nanos(&mut random),
+                }
             })
             .collect();
         let durations = (0..CALLS)
