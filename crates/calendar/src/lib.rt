@@ -40,7 +40,7 @@ const DAYS_IN_MONTH: [[u8; 12]; 2] = [
 // The seconds of 400 years.
 const CYCLE_SECS: u64 = 12622780800;
 
-// A century year is leap where 400 divides it, and hence 16 does: one remainder by 100 is enough.
+// Of a century year, 400 divides it exactly where 16 does.
 pub fn is_leap(year: i64) -> bool
     ensures { λ r. ⌜ r ≡ isLeap year ⌝ }
 {

@@ -3,7 +3,7 @@ use mathlib.Core.Path.{_≡_, sym, ap, subst, _∙_}
 use mathlib.Core.Bool.{Bool, true, false}
 use Prim.Native.Nat.{ℕ, suc, _+_, _*_, _-_, _/_, _%_, _^_, _<_, _≤_, max}
 use native.Mathlib.Omega.{arith}
-use native.Mathlib.Nat.{mul-le-mul-right, div-le-self}
+use native.Mathlib.Nat.{mul-le-mul-right}
 use lib.Dec.{T, ltb, ltb→lt, lit≤}
 use lib.IntN.{ℤ, pos, negsuc, natAbs, _+ℤ_, _-ℤ_, _*ℤ_}
 use lib.Signed.{mag, ltZ, nonNeg, quotZ, remZ, mag-rem, pos-natAbs}
@@ -172,11 +172,6 @@ small-mul {m} {a} k s =
     let l = mul-le-mul-right k (s .top) in
     let h = mul-le-mul-right k (s .low) in
     record { top = omega (arith, times-law a k, apart (a *ℤ pos k)); low = omega (arith, times-law a k, apart (a *ℤ pos k)) }
-
-pub small-quot : {m : ℕ} {a : ℤ} (k : ℕ) → Small m a → Small m (quotZ a (pos k))
-small-quot {m} {a} k s =
-    let q = quotZ a (pos k) in
-    record { top = omega (arith, quot-law a k, apart q, div-le-self (plus a) k, s .top); low = omega (arith, quot-law a k, apart q, div-le-self (minus a) k, s .low) }
 
 pub small-fits : {w : Width} {b : ℕ} {z : ℤ} → T (ltb b (2 ^ hbits w)) → Small b z → SFits w z
 small-fits {w} {b} {z} t s = fit w z (omega (arith, ltb→lt b (2 ^ hbits w) t, s .top, s .low))
