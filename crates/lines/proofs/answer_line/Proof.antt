@@ -1,9 +1,10 @@
+-- `lines::answer_line`: each way out is one of the turns of `proofs/Turns.antt`.
 use mathlib.Core.Path.{sym, _∙_}
 use mathlib.Core.Logic.{inl, inr, ⊎-elim}
 use native.Mathlib.Omega.{arith}
 use lib.ListN.{length, length-take}
-use Rattle.lines.proofs.Turns.{found, used-some, turn-waiting, turn-passed, turn-full, turn-answered}
 use borrow.Author.Needs.{needs}
+use Rattle.lines.proofs.Turns.{found, used-some, turn-waiting, turn-passed, turn-full, turn-answered}
 use Rattle.lines.proofs.answer_line.Statement.{statement}
 use Rattle.lines.proofs.answer_line.Tie as tie
 

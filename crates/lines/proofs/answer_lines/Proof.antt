@@ -1,3 +1,4 @@
+-- `lines::answer_lines`: one turn after another; while nothing is used, nothing is written.
 use mathlib.Core.Path.{_≡_, refl}
 use Prim.Native.Nat.{_-_}
 use native.Mathlib.Omega.{arith}

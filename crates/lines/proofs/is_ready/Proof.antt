@@ -1,5 +1,6 @@
-use borrow.Author.Tests.{lt-ltb, le-ltb}
+-- `lines::is_ready`: the tests in the definition's order.
 use mathlib.Core.Bool.{or-true}
+use borrow.Author.Tests.{lt-ltb, le-ltb}
 use Rattle.lines.specs.Lines.{ready}
 use Rattle.lines.proofs.is_ready.Statement.{statement}
 use Rattle.lines.proofs.is_ready.Tie as tie

@@ -1,3 +1,4 @@
+-- `lines::move_to_front`: when k bytes are moved, the list is `moving s from k`.
 use mathlib.Core.Path.{_≡_, refl}
 use Prim.Native.Nat.{_+_, _-_, _≤_}
 use native.Mathlib.Omega.{arith}

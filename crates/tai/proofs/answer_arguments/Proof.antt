@@ -1,7 +1,8 @@
+-- `tai::answer_arguments`: what is answered lies within out.
 use native.Mathlib.Omega.{arith}
 use lib.ListN.{length-take}
-use Rattle.desk.proofs.Answered.{answered-fits}
 use borrow.Author.Needs.{needs}
+use Rattle.desk.proofs.Answered.{answered-fits}
 use Rattle.tai.proofs.answer_arguments.Statement.{statement}
 use Rattle.tai.proofs.answer_arguments.Tie as tie
 

@@ -1,8 +1,9 @@
-use borrow.Rule.Slice.PartMut.{mid-len, same-len-mid}
+-- `tai::join_arguments`: each argument lies within the request.
 use mathlib.Core.Path.{_≡_, _∙_, refl}
-use Prim.Native.Nat.{_-_, _≤_}
+use Prim.Native.Nat.{_+_, _-_, _≤_}
 use native.Mathlib.Omega.{arith}
 use lib.ListN.{length, length-set}
+use borrow.Rule.Slice.PartMut.{mid-len, putMid, same-len-mid}
 use borrow.Author.Needs.{needs}
 use Rattle.tai.proofs.join_arguments.Statement.{statement}
 use Rattle.tai.proofs.join_arguments.Tie as tie
@@ -16,60 +17,35 @@ abbrev μ-loop : tie.MeasureT-loop
 loop-holds : tie.Need-loop-holds Inv-loop μ-loop
 loop-holds c = (omega arith, refl)
 
+-- an argument lies within the request, which stays as long as it was
+module _ (k : tie.After-arg Inv-loop μ-loop) where
+  whole : let l = k .before .before .before .loop in length (putMid (l .at) (length (l .request) - l .at) (l .request) (k .arg .last .1 .0)) ≡ length (l .request)
+  whole =
+      let l = k .before .before .before .loop in
+      same-len-mid (l .at) (length (l .request) - l .at) (l .request) (k .arg .last .1 .0) (k .arg .kept .1 .0)
+
+  within : let l = k .before .before .before .loop in l .at + k .arg .result ≤ length (l .request)
+  within =
+      let l = k .before .before .before .loop in
+      omega (arith, k .arg .ensures .0, k .arg .kept .1 .0, mid-len (l .at) (length (l .request)) (l .request) (omega arith))
+
 add-at : tie.Need-add-at Inv-loop μ-loop
-add-at c =
-    let loop = c .before .before .before .before .before .before .before .loop in
-    let arg = c .before .before .before .before .arg in
-    let s = loop .request in
-    let k = arg .kept .1 .0 in
-    let m = mid-len (loop .at) (length s) s (omega arith) in
-    let b = same-len-mid (loop .at) (length s - loop .at) s (arg .last .1 .0) k in
-    let g = arg .ensures .0 in
-    omega arith
+add-at c = omega (arith, within (search))
 
 returns-2 : tie.Need-returns-2 Inv-loop μ-loop
-returns-2 c =
-    let loop = c .before .before .before .before .before .before .before .before .loop in
-    let arg = c .before .before .before .before .before .arg in
-    let s = loop .request in
-    let k = arg .kept .1 .0 in
-    let m = mid-len (loop .at) (length s) s (omega arith) in
-    let b = same-len-mid (loop .at) (length s - loop .at) s (arg .last .1 .0) k in
-    let g = arg .ensures .0 in
-    omega arith
+returns-2 c = omega (arith, within (search), whole (search))
 
 slice-write-request : tie.Need-slice-write-request Inv-loop μ-loop
-slice-write-request c =
-    let loop = c .before .before .before .before .before .before .before .before .loop in
-    let arg = c .before .before .before .before .before .arg in
-    let s = loop .request in
-    let k = arg .kept .1 .0 in
-    let m = mid-len (loop .at) (length s) s (omega arith) in
-    let b = same-len-mid (loop .at) (length s - loop .at) s (arg .last .1 .0) k in
-    let g = arg .ensures .0 in
-    omega arith
+slice-write-request c = omega (arith, within (search), whole (search))
 
 add-at-2 : tie.Need-add-at-2 Inv-loop μ-loop
-add-at-2 c =
-    let loop = c .before .before .before .before .before .before .before .before .loop in
-    let arg = c .before .before .before .before .before .arg in
-    let s = loop .request in
-    let k = arg .kept .1 .0 in
-    let m = mid-len (loop .at) (length s) s (omega arith) in
-    let b = same-len-mid (loop .at) (length s - loop .at) s (arg .last .1 .0) k in
-    let g = arg .ensures .0 in
-    omega arith
+add-at-2 c = omega (arith, within (search), whole (search))
 
 loop-again : tie.Need-loop-again Inv-loop μ-loop
-loop-again c =
-    let loop = c .before .before .before .before .before .before .before .before .loop in
-    let arg = c .before .before .before .before .before .arg in
-    let s = loop .request in
-    let k = arg .kept .1 .0 in
-    let m = mid-len (loop .at) (length s) s (omega arith) in
-    let b = same-len-mid (loop .at) (length s - loop .at) s (arg .last .1 .0) k in
-    let g = arg .ensures .0 in
-    (simp length-set (omega arith), simp length-set (b ∙ loop .inv .1))
+loop-again c = (
+  simp length-set (omega (arith, within (search), whole (search))),
+  simp length-set (whole (search) ∙ c .before .before .before .before .before .before .before .before .loop .inv .1),
+)
 
 same-length-3 : tie.Need-same-length-3 Inv-loop μ-loop
 same-length-3 c = c .before .before .loop .inv .1

@@ -1,3 +1,4 @@
+-- `tai::write`: the bytes are there.
 use native.Mathlib.Omega.{arith}
 use lib.ListN.{length-take}
 use borrow.Author.Needs.{needs}

@@ -1,3 +1,4 @@
+-- `tai::answer_input`: the input and out stay as long as they were, and what waits is so short that a read has room.
 use mathlib.Core.Path.{_≡_, refl, ap, _∙_}
 use mathlib.Core.Logic.{⊎-elim}
 use Prim.Native.Nat.{_≤_}
