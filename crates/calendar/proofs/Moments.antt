@@ -33,6 +33,14 @@ pub second-within : (t : Time) → ValidTime t → secondOfDay t < 86400
 unfolding secondOfDay
 second-within t v = omega (arith, v .hour-to, v .minute-to, v .second-to)
 
+pub seconds-near : (m : Moment) → natAbs (m .date .year) ≤ 10_000_000_000 → Valid (m .date) → ValidTime (m .time) → natAbs (secondsOf m) ≤ 400_000_000_000_000_000
+unfolding secondsOf
+seconds-near m h v t =
+    let y = dayNumber (m .date) in
+    let n = pos (secondOfDay (m .time)) in
+    let z = y *ℤ pos 86400 +ℤ n in
+    omega (arith, day-near (m .date) v, second-within (m .time) t, size-law y, size-law z, apart z, times-law y 86400, add-law (y *ℤ pos 86400) n)
+
 -- ---- the time of day
 time-valid : (n : ℕ) → n < 86400 → ValidTime (timeAt n)
 unfolding timeAt

@@ -2,7 +2,6 @@
 use integers::Checked;
 use integers::Parts;
 use integers::add_parts;
-use integers::checked_sub;
 use integers::floor_join;
 use integers::floor_split;
 use integers::sub_parts;
@@ -234,7 +233,7 @@ fn second_of_day(t: Time) -> u64
 }
 
 // The seconds at a moment, where the year is so near that an i64 holds them.
-fn secs_from_1970(m: Moment) -> i64
+pub fn secs_from_1970(m: Moment) -> i64
     requires { ⌜ (natAbs (m .date .year) ≤ 10_000_000_000) × Valid (m .date) × ValidTime (m .time) ⌝ }
     ensures { λ r. ⌜ r ≡ secondsOf m ⌝ }
 {
@@ -243,8 +242,8 @@ fn secs_from_1970(m: Moment) -> i64
     day_of_date(date) * 86400 + second_of_day(time) as i64
 }
 
-// The count of a moment over an epoch, in parts: the moment's own seconds need not fit.
-fn far_date_time_to_secs(m: Moment, epoch: i64) -> Checked
+// The count of a moment over an epoch, decided on the exact sum: the moment's own seconds need not fit.
+pub fn date_time_to_secs(m: Moment, epoch: i64) -> Checked
     requires { ⌜ (natAbs (m .date .year) ≤ 1_000_000_000_000) × Valid (m .date) × ValidTime (m .time) ⌝ }
     ensures { λ r. ⌜ r ≡ checked (secondsOf m -ℤ epoch) ⌝ }
 {
@@ -258,20 +257,4 @@ fn far_date_time_to_secs(m: Moment, epoch: i64) -> Checked
         sub_parts(from_1970, floor_split(epoch, 86400), 86400),
         86400,
     )
-}
-
-// The count of a moment over an epoch, decided on the exact sum. An i64 holds the seconds of every year but the far ones.
-pub fn date_time_to_secs(m: Moment, epoch: i64) -> Checked
-    requires { ⌜ (natAbs (m .date .year) ≤ 1_000_000_000_000) × Valid (m .date) × ValidTime (m .time) ⌝ }
-    ensures { λ r. ⌜ r ≡ checked (secondsOf m -ℤ epoch) ⌝ }
-{
-    let date = m.date;
-    let year = date.year;
-    if year < -10000000000 {
-        return far_date_time_to_secs(m, epoch);
-    }
-    if 10000000000 < year {
-        return far_date_time_to_secs(m, epoch);
-    }
-    checked_sub(secs_from_1970(m), epoch)
 }

@@ -34,7 +34,7 @@ pub fn date_time_secs(
     if day < 1 {
         return SecsAnswer::Refused(DateTimeError::InvalidDayOfMonth(day));
     }
-    if !calendar::is_day_of_month(year, month, day) {
+    if calendar::days_in_month(year, month) < day {
         return SecsAnswer::Refused(DateTimeError::InvalidDayOfMonth(day));
     }
     if 23 < hour {

@@ -1,6 +1,7 @@
 // Timestamps, durations, and every entry on their counts. The names are those of lib.rs in the Rust.
 use errors::CountError;
 use errors::DateTimeError;
+use integers::Checked;
 ghost use mathlib.Core.Path.{_≡_};
 ghost use Rattle.counts.specs.Said.{saidCounted, saidTime, saidDateTime, saidUnix, saidDuration, saidOrdering};
 ghost use Rattle.counts.specs.Counts.{newTime, fromDateTime, fromUnix, toUnix, overEpoch, added, taken, since, compared};
@@ -8,6 +9,7 @@ ghost use Rattle.counts.specs.Counts.{newTime, fromDateTime, fromUnix, t
 pub mod dates;
 mod durations;
 mod epochs;
+mod near;
 
 // A reference that seconds count from, in seconds from 1970-01-01 00:00:00 TAI.
 pub struct Epoch(pub i64);
@@ -130,6 +132,10 @@ impl TaiTime {
     ) -> DateTimeAnswer
         ensures { λ r. ⌜ saidDateTime r ≡ fromDateTime (epoch .0) year month day hour min sec nano ⌝ }
     {
+        let near = near::near_secs(epoch.0, year as i64, month, day, hour, min, sec, nano);
+        if let Checked::Exact(secs) = near {
+            return DateTimeAnswer::At(TaiTime { secs, nanos: nano });
+        }
         match dates::date_time_secs(epoch.0, year as i64, month, day, hour, min, sec, nano) {
             SecsAnswer::At(secs) => DateTimeAnswer::At(TaiTime { secs, nanos: nano }),
             SecsAnswer::Refused(e) => DateTimeAnswer::Refused(e),

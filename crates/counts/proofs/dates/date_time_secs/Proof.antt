@@ -1,13 +1,11 @@
 -- `counts::date_time_secs`: at each way out the tests before it were passed, in 01's order.
 use mathlib.Core.Path.{_≡_, refl, sym, ap, _∙_}
 use native.Mathlib.Omega.{arith}
-use Prim.Native.Nat.{_≤_}
-use lib.Dec.{leb}
 use lib.IntN.{_-ℤ_}
 use mir.Facts.{toZ-ofZ}
 use mir.Syntax.{w64}
 use mir.Val.{SFits}
-use borrow.Author.Tests.{le-leb, lt-leb, leb-true, not-true, not-false}
+use borrow.Author.Tests.{le-leb, lt-leb}
 use borrow.Author.Needs.{needs}
 use Rattle.integers.specs.Integers.{checked}
 use Rattle.errors.specs.Refusals.{gives}
@@ -20,13 +18,10 @@ use Rattle.counts.proofs.dates.date_time_secs.Statement.{statement}
 use Rattle.counts.proofs.dates.date_time_secs.Tie as tie
 
 -- what the two calls say, of the numbers themselves
-in-month : (k : tie.After-is-day-of-month) → let a = k .before .before .before .before .args in k .is-day-of-month .result ≡ leb (a .day) (monthLength (a .year) (a .month))
-in-month k =
+length : (k : tie.After-days-in-month) → let a = k .before .before .before .before .args in k .days-in-month .result ≡ monthLength (a .year) (a .month)
+length k =
     let s = k .before .before .before .before in
-    k .is-day-of-month .ensures ∙ ap (λ y. leb (s .args .day) (monthLength y (s .args .month))) (toZ-ofZ {w = w64} (s .fits .year))
-
-length : (k : tie.Else4) → let a = k .before .before .before .before .before .args in a .day ≤ monthLength (a .year) (a .month)
-length k = leb-true _ _ (sym (in-month (k .before)) ∙ not-false _ (k .if4 .left))
+    k .days-in-month .ensures ∙ ap (λ y. monthLength y (s .args .month)) (toZ-ofZ {w = w64} (s .fits .year))
 
 counted : (k : tie.After-date-time-to-secs) → let a = k .before .before .before .before .before .before .before .before .before .before .args in k .date-time-to-secs .result ≡ checked (secondsOf (record { date = date (a .year) (a .month) (a .day); time = record { hour = a .hour; minute = a .min; second = a .sec } }) -ℤ a .epoch)
 counted k =
@@ -47,33 +42,33 @@ returns-3 : tie.Need-returns-3
 unfolding dateTimeSecs
 returns-3 c = rw (le-leb 1 (c .before .before .before .args .month) (omega arith), le-leb (c .before .before .before .args .month) 12 (omega arith), lt-leb 1 (c .before .before .before .args .day) (omega arith))
 
-is-day-of-month-requires : tie.Need-is-day-of-month-requires
-is-day-of-month-requires c κs = search needs
+days-in-month-requires : tie.Need-days-in-month-requires
+days-in-month-requires c κs = search needs
 
 returns-4 : tie.Need-returns-4
 unfolding dateTimeSecs
-returns-4 c = rw (le-leb 1 (c .before .before .before .before .before .args .month) (omega arith), le-leb (c .before .before .before .before .before .args .month) 12 (omega arith), le-leb 1 (c .before .before .before .before .before .args .day) (omega arith), sym (in-month (search)) ∙ not-true _ (c .if4 .taken))
+returns-4 c = rw (le-leb 1 (c .before .before .before .before .before .args .month) (omega arith), le-leb (c .before .before .before .before .before .args .month) 12 (omega arith), le-leb 1 (c .before .before .before .before .before .args .day) (omega arith), lt-leb (c .before .before .before .before .before .args .day) (monthLength (c .before .before .before .before .before .args .year) (c .before .before .before .before .before .args .month)) (omega (arith, length (search))))
 
 returns-5 : tie.Need-returns-5
 unfolding dateTimeSecs
-returns-5 c = rw (le-leb 1 (c .before .before .before .before .before .before .args .month) (omega arith), le-leb (c .before .before .before .before .before .before .args .month) 12 (omega arith), le-leb 1 (c .before .before .before .before .before .before .args .day) (omega arith), le-leb (c .before .before .before .before .before .before .args .day) (monthLength (c .before .before .before .before .before .before .args .year) (c .before .before .before .before .before .before .args .month)) (length (search)), lt-leb (c .before .before .before .before .before .before .args .hour) 23 (omega arith))
+returns-5 c = rw (le-leb 1 (c .before .before .before .before .before .before .args .month) (omega arith), le-leb (c .before .before .before .before .before .before .args .month) 12 (omega arith), le-leb 1 (c .before .before .before .before .before .before .args .day) (omega arith), le-leb (c .before .before .before .before .before .before .args .day) (monthLength (c .before .before .before .before .before .before .args .year) (c .before .before .before .before .before .before .args .month)) (omega (arith, length (search))), lt-leb (c .before .before .before .before .before .before .args .hour) 23 (omega arith))
 
 returns-6 : tie.Need-returns-6
 unfolding dateTimeSecs
-returns-6 c = rw (le-leb 1 (c .before .before .before .before .before .before .before .args .month) (omega arith), le-leb (c .before .before .before .before .before .before .before .args .month) 12 (omega arith), le-leb 1 (c .before .before .before .before .before .before .before .args .day) (omega arith), le-leb (c .before .before .before .before .before .before .before .args .day) (monthLength (c .before .before .before .before .before .before .before .args .year) (c .before .before .before .before .before .before .before .args .month)) (length (search)), le-leb (c .before .before .before .before .before .before .before .args .hour) 23 (omega arith), lt-leb (c .before .before .before .before .before .before .before .args .min) 59 (omega arith))
+returns-6 c = rw (le-leb 1 (c .before .before .before .before .before .before .before .args .month) (omega arith), le-leb (c .before .before .before .before .before .before .before .args .month) 12 (omega arith), le-leb 1 (c .before .before .before .before .before .before .before .args .day) (omega arith), le-leb (c .before .before .before .before .before .before .before .args .day) (monthLength (c .before .before .before .before .before .before .before .args .year) (c .before .before .before .before .before .before .before .args .month)) (omega (arith, length (search))), le-leb (c .before .before .before .before .before .before .before .args .hour) 23 (omega arith), lt-leb (c .before .before .before .before .before .before .before .args .min) 59 (omega arith))
 
 returns-7 : tie.Need-returns-7
 unfolding dateTimeSecs
-returns-7 c = rw (le-leb 1 (c .before .before .before .before .before .before .before .before .args .month) (omega arith), le-leb (c .before .before .before .before .before .before .before .before .args .month) 12 (omega arith), le-leb 1 (c .before .before .before .before .before .before .before .before .args .day) (omega arith), le-leb (c .before .before .before .before .before .before .before .before .args .day) (monthLength (c .before .before .before .before .before .before .before .before .args .year) (c .before .before .before .before .before .before .before .before .args .month)) (length (search)), le-leb (c .before .before .before .before .before .before .before .before .args .hour) 23 (omega arith), le-leb (c .before .before .before .before .before .before .before .before .args .min) 59 (omega arith), lt-leb (c .before .before .before .before .before .before .before .before .args .sec) 59 (omega arith))
+returns-7 c = rw (le-leb 1 (c .before .before .before .before .before .before .before .before .args .month) (omega arith), le-leb (c .before .before .before .before .before .before .before .before .args .month) 12 (omega arith), le-leb 1 (c .before .before .before .before .before .before .before .before .args .day) (omega arith), le-leb (c .before .before .before .before .before .before .before .before .args .day) (monthLength (c .before .before .before .before .before .before .before .before .args .year) (c .before .before .before .before .before .before .before .before .args .month)) (omega (arith, length (search))), le-leb (c .before .before .before .before .before .before .before .before .args .hour) 23 (omega arith), le-leb (c .before .before .before .before .before .before .before .before .args .min) 59 (omega arith), lt-leb (c .before .before .before .before .before .before .before .before .args .sec) 59 (omega arith))
 
 returns-8 : tie.Need-returns-8
 unfolding dateTimeSecs
-returns-8 c = rw (le-leb 1 (c .before .before .before .before .before .before .before .before .before .args .month) (omega arith), le-leb (c .before .before .before .before .before .before .before .before .before .args .month) 12 (omega arith), le-leb 1 (c .before .before .before .before .before .before .before .before .before .args .day) (omega arith), le-leb (c .before .before .before .before .before .before .before .before .before .args .day) (monthLength (c .before .before .before .before .before .before .before .before .before .args .year) (c .before .before .before .before .before .before .before .before .before .args .month)) (length (search)), le-leb (c .before .before .before .before .before .before .before .before .before .args .hour) 23 (omega arith), le-leb (c .before .before .before .before .before .before .before .before .before .args .min) 59 (omega arith), le-leb (c .before .before .before .before .before .before .before .before .before .args .sec) 59 (omega arith), bad (c .before .before .before .before .before .before .before .before .before .args .nano) (omega arith))
+returns-8 c = rw (le-leb 1 (c .before .before .before .before .before .before .before .before .before .args .month) (omega arith), le-leb (c .before .before .before .before .before .before .before .before .before .args .month) 12 (omega arith), le-leb 1 (c .before .before .before .before .before .before .before .before .before .args .day) (omega arith), le-leb (c .before .before .before .before .before .before .before .before .before .args .day) (monthLength (c .before .before .before .before .before .before .before .before .before .args .year) (c .before .before .before .before .before .before .before .before .before .args .month)) (omega (arith, length (search))), le-leb (c .before .before .before .before .before .before .before .before .before .args .hour) 23 (omega arith), le-leb (c .before .before .before .before .before .before .before .before .before .args .min) 59 (omega arith), le-leb (c .before .before .before .before .before .before .before .before .before .args .sec) 59 (omega arith), bad (c .before .before .before .before .before .before .before .before .before .args .nano) (omega arith))
 
 -- what the tests have shown
 module _ (k : tie.Else8) where
   valid : Valid (date (k .before .before .before .before .before .before .before .before .before .args .year) (k .before .before .before .before .before .before .before .before .before .args .month) (k .before .before .before .before .before .before .before .before .before .args .day))
-  valid = record { month-from = omega arith; month-to = omega arith; day-from = omega arith; day-to = length (search) }
+  valid = record { month-from = omega arith; month-to = omega arith; day-from = omega arith; day-to = omega (arith, length (search)) }
 
   valid-time : ValidTime (record { hour = k .before .before .before .before .before .before .before .before .before .args .hour; minute = k .before .before .before .before .before .before .before .before .before .args .min; second = k .before .before .before .before .before .before .before .before .before .args .sec })
   valid-time = record { hour-to = omega arith; minute-to = omega arith; second-to = omega arith }
@@ -102,7 +97,7 @@ date-time-secs-spec =
     returns
     returns-2
     returns-3
-    is-day-of-month-requires
+    days-in-month-requires
     returns-4
     returns-5
     returns-6
