@@ -34,16 +34,20 @@ withNanos nanos (refusesInRangeError r) = refusesInRangeError r
 unfoldable pub newTime : ℤ → ℕ → Outcome (ℤ × ℕ)
 newTime secs nanos = goodNanos nanos (gives (secs, nanos))
 
--- calendar fields: 0 to 6 in order
-unfoldable pub dateTimeSecs : ℤ → ℤ → ℕ → ℕ → ℕ → ℕ → ℕ → ℕ → Outcome ℤ
-dateTimeSecs epoch year month day hour min sec nano =
+-- calendar fields: 0 to 5 in order, and then the rest
+abbrev pub fieldsChecked : ℤ → ℕ → ℕ → ℕ → ℕ → ℕ → ℕ → Outcome ℤ → Outcome ℤ
+fieldsChecked year month day hour min sec nano rest =
     check (leb 1 month && leb month 12) (refusal 0 (pos month ∷ []))
     (check (leb 1 day && leb day (monthLength year month)) (refusal 1 (pos day ∷ []))
     (check (leb hour 23) (refusal 2 (pos hour ∷ []))
     (check (leb min 59) (refusal 3 (pos min ∷ []))
     (check (leb sec 59) (refusal 4 (pos sec ∷ []))
-    (check (ltb nano 1000000000) (refusal 5 (pos nano ∷ []))
-    (check (isI64 secs) (refusal 6 []) (gives secs)))))))
+    (check (ltb nano 1000000000) (refusal 5 (pos nano ∷ [])) rest)))))
+
+-- and then 6
+unfoldable pub dateTimeSecs : ℤ → ℤ → ℕ → ℕ → ℕ → ℕ → ℕ → ℕ → Outcome ℤ
+dateTimeSecs epoch year month day hour min sec nano =
+    fieldsChecked year month day hour min sec nano (check (isI64 secs) (refusal 6 []) (gives secs))
   where
     secs : ℤ
     secs = secondsOf (record { date = date year month day; time = record { hour = hour; minute = min; second = sec } }) -ℤ epoch

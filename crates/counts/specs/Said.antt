@@ -1,7 +1,8 @@
 -- What each answer says, by document 01's numbers and values. A timestamp and a duration are said as (seconds, nanoseconds).
+use mathlib.Core.List.{[], _∷_}
 use Prim.Native.Nat.{ℕ}
-use lib.IntN.{ℤ}
-use Rattle.errors.specs.Refusals.{Outcome, gives, refuses, ofCount, ofDateTime}
+use lib.IntN.{ℤ, pos}
+use Rattle.errors.specs.Refusals.{refusal, Outcome, gives, refuses, ofCount, ofDateTime}
 use Rattle.counts.specs.declared.Ordering.{Ordering}
 use Rattle.counts.specs.declared.Counted.{Counted}
 use Rattle.counts.specs.declared.Counted.the-variants as Counted
@@ -11,6 +12,8 @@ use Rattle.counts.specs.declared.SecsAnswer.{SecsAnswer}
 use Rattle.counts.specs.declared.SecsAnswer.the-variants as Secs
 use Rattle.counts.specs.declared.DateTimeAnswer.{DateTimeAnswer}
 use Rattle.counts.specs.declared.DateTimeAnswer.the-variants as DateTime
+use Rattle.counts.specs.declared.dates.BadField.{BadField}
+use Rattle.counts.specs.declared.dates.BadField.the-variants as BadField
 use Rattle.counts.specs.declared.UnixAnswer.{UnixAnswer}
 use Rattle.counts.specs.declared.UnixAnswer.the-variants as Unix
 use Rattle.counts.specs.declared.DurationAnswer.{DurationAnswer}
@@ -25,6 +28,16 @@ saidCounted (Counted.Refused e) = refuses (ofCount e)
 abbrev pub saidTime : TimeAnswer → Outcome (ℤ × ℕ)
 saidTime (Time.At t) = gives (t .secs, t .nanos)
 saidTime (Time.Refused e) = refuses (ofCount e)
+
+-- a field that is refused, or, where none is, what comes then
+abbrev pub saidField : BadField → ℕ → ℕ → ℕ → ℕ → ℕ → ℕ → Outcome ℤ → Outcome ℤ
+saidField BadField.Month month day hour min sec nano rest = refuses (refusal 0 (pos month ∷ []))
+saidField BadField.Day month day hour min sec nano rest = refuses (refusal 1 (pos day ∷ []))
+saidField BadField.Hour month day hour min sec nano rest = refuses (refusal 2 (pos hour ∷ []))
+saidField BadField.Minute month day hour min sec nano rest = refuses (refusal 3 (pos min ∷ []))
+saidField BadField.Second month day hour min sec nano rest = refuses (refusal 4 (pos sec ∷ []))
+saidField BadField.Nanosecond month day hour min sec nano rest = refuses (refusal 5 (pos nano ∷ []))
+saidField BadField.None month day hour min sec nano rest = rest
 
 abbrev pub saidSecs : SecsAnswer → Outcome ℤ
 saidSecs (Secs.At secs) = gives secs

@@ -9,7 +9,6 @@ ghost use Rattle.counts.specs.Counts.{newTime, fromDateTime, fromUnix, t
 pub mod dates;
 mod durations;
 mod epochs;
-mod near;
 
 // A reference that seconds count from, in seconds from 1970-01-01 00:00:00 TAI.
 pub struct Epoch(pub i64);
@@ -132,7 +131,7 @@ impl TaiTime {
     ) -> DateTimeAnswer
         ensures { λ r. ⌜ saidDateTime r ≡ fromDateTime (epoch .0) year month day hour min sec nano ⌝ }
     {
-        let near = near::near_secs(epoch.0, year as i64, month, day, hour, min, sec, nano);
+        let near = dates::near_secs(epoch.0, year as i64, month, day, hour, min, sec, nano);
         if let Checked::Exact(secs) = near {
             return DateTimeAnswer::At(TaiTime { secs, nanos: nano });
         }
