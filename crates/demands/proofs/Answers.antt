@@ -24,7 +24,8 @@ use Rattle.counts.specs.Said.{saidTime, saidSecs, saidDateTime, saidUnix, saidD
 use Rattle.reader.specs.declared.stamp.ReadAnswer.{ReadAnswer}
 use Rattle.reader.specs.declared.stamp.ReadAnswer.the-variants as Read
 use Rattle.reader.specs.Stamp.{saidRead}
-use Rattle.demands.proofs.Passed.{gives-one, refuses-not}
+use Rattle.counts.proofs.Checks.{refuses-not}
+use Rattle.demands.proofs.Passed.{gives-one}
 
 refuses-one : {A : Type 0} {r q : Refusal} → _≡_ {A = Outcome A} (refuses r) (refuses q) → r ≡ q
 refuses-one e = cc

@@ -14,9 +14,10 @@ use Rattle.calendar.specs.Walk.{Valid, date, monthLength}
 use Rattle.calendar.specs.Moments.{momentAt, ValidTime, secondsOf}
 use Rattle.calendar.proofs.Moments.{seconds-moment, moment-seconds, moment-valid}
 use Rattle.counts.specs.Counts.{check, withNanos, dateTimeSecs, fromDateTime}
-use Rattle.reader.proofs.Digits.{both}
+use Rattle.counts.proofs.Checks.{passed, refuses-not}
+use Rattle.counts.proofs.Fields.{Good, good-fields}
 use Rattle.demands.specs.Values.{moment, Reaches}
-use Rattle.demands.proofs.Passed.{passed, with-nanos, gives-one, refuses-not}
+use Rattle.demands.proofs.Passed.{with-nanos, gives-one}
 
 -- ---- the only count
 pub one-count : {epoch a b : ℤ} {m : Moment} → Reaches epoch a m → Reaches epoch b m → a ≡ b
@@ -44,32 +45,17 @@ module _ (epoch year : ℤ) (month day hour min sec nano : ℕ) where
 
   -- what a value tells of the fields
   record Told (secs : ℤ) : Type 0 where
-    valid : Valid (date year month day)
-    time : ValidTime (moment year month day hour min sec .time)
-    nanos : nano < 1000000000
+    good : Good year month day hour min sec nano
     fits : isI64 secs ≡ true
     is : count epoch (moment year month day hour min sec) ≡ secs
 
   told : {secs : ℤ} → dateTimeSecs epoch year month day hour min sec nano ≡ gives secs → Told secs
   unfolding dateTimeSecs
   told e =
-      let a = passed _ _ _ e in
-      let b = passed _ _ _ (a .1) in
-      let c = passed _ _ _ (b .1) in
-      let d = passed _ _ _ (c .1) in
-      let f = passed _ _ _ (d .1) in
-      let g = passed _ _ _ (f .1) in
+      let g = good-fields year month day hour min sec nano e in
       let h = passed _ _ _ (g .1) in
       let i = gives-one (h .1) in
-      let m = both (leb 1 month) (leb month 12) (a .0) in
-      let n = both (leb 1 day) (leb day (monthLength year month)) (b .0) in
-      record {
-        valid = record { month-from = leb-true _ _ (m .0); month-to = leb-true _ _ (m .1); day-from = leb-true _ _ (n .0); day-to = leb-true _ _ (n .1) };
-        time = record { hour-to = leb-true _ _ (c .0); minute-to = leb-true _ _ (d .0); second-to = leb-true _ _ (f .0) };
-        nanos = ltb-true _ _ (g .0);
-        fits = sym (ap isI64 i) ∙ h .0;
-        is = i;
-      }
+      record { good = g .0; fits = sym (ap isI64 i) ∙ h .0; is = i }
 
   -- ACCEPTED EXACTLY IF THE WALK REACHES IT
   pub accepted : (secs : ℤ) (nanos : ℕ) → (fromDateTime epoch year month day hour min sec nano ≡ gives (secs, nanos)) ↔ (Reaches epoch secs (moment year month day hour min sec) × (nanos ≡ nano) × (nano < 1000000000))
@@ -83,7 +69,7 @@ module _ (epoch year : ℤ) (month day hour min sec nano : ℕ) where
       there e =
           let w = with-nanos nano (dateTimeSecs epoch year month day hour min sec nano) e in
           let t = told (w .0) in
-          (record { secs-fit = t .fits; walked = ap (λ z. momentAt (z +ℤ epoch)) (sym (t .is)) ∙ count-reaches epoch m (t .valid) (t .time) }, w .1, t .nanos)
+          (record { secs-fit = t .fits; walked = ap (λ z. momentAt (z +ℤ epoch)) (sym (t .is)) ∙ count-reaches epoch m (t .good .valid) (t .good .time) }, w .1, t .good .nanos)
 
       back : Reaches epoch secs m × (nanos ≡ nano) × (nano < 1000000000) → withNanos nano (dateTimeSecs epoch year month day hour min sec nano) ≡ gives (secs, nanos)
       back (r, e, n) =

@@ -15,7 +15,7 @@ use Rattle.reader.specs.declared.fields.Delimiter.the-variants.{Hyphen, SpaceOr
 use Rattle.reader.specs.declared.fields.Field.the-variants as Field
 use Rattle.reader.specs.declared.fields.Seconds.the-variants as Seconds
 use Rattle.reader.specs.declared.date_time.Parsed.{Parsed}
-use Rattle.reader.proofs.Digits.{both}
+use Rattle.counts.proofs.Checks.{both}
 use Rattle.reader.proofs.Tenths.{good-fraction}
 use Rattle.printer.specs.Text.{digits, pointed}
 use Rattle.printer.proofs.Decimal.{digits-length}

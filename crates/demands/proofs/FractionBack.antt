@@ -10,7 +10,7 @@ use lib.ListN.{length}
 use borrow.Author.Tests.{eqb-true}
 use Rattle.reader.specs.Numbers.{isDigit, allDigits}
 use Rattle.reader.specs.Fields.{nanoseconds}
-use Rattle.reader.proofs.Digits.{both}
+use Rattle.counts.proofs.Checks.{both}
 use Rattle.reader.proofs.Tenths.{weighed, weighed-nanoseconds}
 use Rattle.printer.specs.Text.{digits, unlessLast, trim}
 use Rattle.printer.proofs.Decimal.{digits-length}

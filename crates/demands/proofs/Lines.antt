@@ -14,7 +14,8 @@ use Rattle.errors.specs.Refusals.{Refusal, Outcome, gives, refuses, refusal}
 use Rattle.printer.specs.declared.Precision.{Precision}
 use Rattle.printer.specs.Line.{byRoom}
 use Rattle.printer.specs.Display.{timeText, displayed}
-use Rattle.demands.proofs.Passed.{gives-one, refuses-not}
+use Rattle.counts.proofs.Checks.{refuses-not}
+use Rattle.demands.proofs.Passed.{gives-one}
 
 -- the outcome and the line, by the three tests: nanoseconds below 10^9, a place beyond the line, want of room
 abbrev tested : List ℕ → ℕ → List ℕ → Bool → Bool → Bool → Outcome ℕ × List ℕ

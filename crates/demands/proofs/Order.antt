@@ -16,7 +16,8 @@ use Rattle.calendar.proofs.Moments.{moment-order}
 use Rattle.counts.specs.Counts.{exact, order, compared}
 use Rattle.counts.specs.declared.Ordering.the-variants.{Less, Equal, Greater}
 use Rattle.demands.specs.Values.{EarlierReading, by-moment, by-nanos}
-use Rattle.demands.proofs.Passed.{passed, gives-one}
+use Rattle.demands.proofs.Passed.{gives-one}
+use Rattle.counts.proofs.Checks.{passed}
 
 split : (secs : ℤ) (nanos : ℕ) → nanos < 1000000000 → Floor 1000000000 (exact secs nanos) secs nanos
 unfolding exact

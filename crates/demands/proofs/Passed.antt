@@ -1,25 +1,17 @@
--- What an outcome tells of the checks that it went through.
-use mathlib.Core.Path.{_≡_, refl, sym, ap}
-use mathlib.Core.Bool.{Bool, true, false}
+-- What an outcome tells of what it was made of.
+use mathlib.Core.Path.{_≡_, sym, ap}
 use Prim.Native.Nat.{ℕ}
 use native.Mathlib.Omega.{arith}
 use lib.IntN.{ℤ}
 use Rattle.errors.specs.Refusals.{Refusal, Outcome, gives, refuses, refusesInRangeError}
-use Rattle.counts.specs.Counts.{check, withNanos}
+use Rattle.counts.specs.Counts.{withNanos}
+use Rattle.counts.proofs.Checks.{refuses-not}
 
 pub gives-one : {A : Type 0} {x y : A} → gives x ≡ gives y → x ≡ y
 gives-one e = cc
 
-pub refuses-not : {A : Type 0} {r : Refusal} {x : A} → refuses r ≡ gives x → ⊥
-refuses-not e = let z : _≡_ {A = ℕ} 0 1 = cc in omega arith
-
 pub inner-not : {A : Type 0} {r : Refusal} {x : A} → refusesInRangeError r ≡ gives x → ⊥
 inner-not e = let z : _≡_ {A = ℕ} 0 1 = cc in omega arith
-
--- a value came through a check: the test held
-pub passed : {A : Type 0} {x : A} (b : Bool) (r : Refusal) (o : Outcome A) → check b r o ≡ gives x → (b ≡ true) × (o ≡ gives x)
-passed true r o e = (refl, e)
-passed false r o e = absurd (refuses-not e)
 
 -- nanoseconds were added to a value
 pub with-nanos : {k : ℕ} {s : ℤ} (n : ℕ) (o : Outcome ℤ) → withNanos n o ≡ gives (s, k) → (o ≡ gives s) × (k ≡ n)

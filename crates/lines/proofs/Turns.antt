@@ -3,7 +3,7 @@ use mathlib.Core.Path.{_≡_, refl, sym, ap, _∙_}
 use mathlib.Core.Bool.{Bool, true, false, cond, not, or-true}
 use mathlib.Core.List.{List, [], _∷_, _++_, append-nil, append-assoc}
 use mathlib.Core.Logic.{_⊎_, inl, inr, ⊎-elim}
-use Prim.Native.Nat.{ℕ, suc, _+_, _-_, _<_, _≤_}
+use Prim.Native.Nat.{ℕ, suc, _+_, _-_, _<_, _≤_, min}
 use native.Mathlib.Omega.{arith}
 use native.Mathlib.Nat.{zero-add}
 use lib.Dec.{eqb, ltb}
@@ -15,7 +15,7 @@ use mir.Val.{boolByte}
 use Rattle.bytes.specs.Bytes.{indexOf, indexAfter, slice}
 use Rattle.desk.specs.Answers.{answerText, answered}
 use Rattle.desk.proofs.Answered.{answered-front, answered-none, answer-too-long, answered-fits}
-use Rattle.lines.specs.Lines.{lines, answers, input, ready, Done, Turn}
+use Rattle.lines.specs.Lines.{lines, input, ready, Done, Turn}
 use Rattle.lines.specs.declared.Answered.{Answered}
 use Rattle.lines.proofs.Cuts.{first, goesOn, used, pass, first-line, first-long, answers-first}
 
@@ -28,9 +28,9 @@ module _ (s : List ℕ) (within ended : Bool) (out : List ℕ) where
   pub done-nothing : Done s within ended out out (record { used = 0; written = 0; within = within })
   done-nothing = record { same = λ later. refl; usedFits = omega arith; writtenFits = omega arith; behind = refl }
 
-  turn-left : (ready ended s ≡ true → 65664 ≤ length out → ⊥)
+  turn-left : (ready ended s ≡ true → min (indexOf 10 s) 65536 + 128 ≤ length out → ⊥)
       → Turn s within ended out out (record { used = 0; written = 0; within = within })
-  turn-left h = record { done = done-nothing; goesOn = λ e k. absurd (h e k) }
+  turn-left h = record { done = done-nothing; progress = λ e k. absurd (h e k) }
 
   -- no line can be answered
   pub turn-waiting : ready ended s ≡ false → Turn s within ended out out (record { used = 0; written = 0; within = within })
@@ -66,7 +66,7 @@ module _ (s : List ℕ) (ended : Bool) (out : List ℕ) where
   turn-passed =
       record {
         done = record { same = λ later. pass (cond ended [] later) s; usedFits = used-some s .0; writtenFits = omega arith; behind = refl };
-        goesOn = λ e k. used-some s .1 (ready-some ended s e);
+        progress = λ e k. used-some s .1 (ready-some ended s e);
       }
 
 -- the answer to the first line is decided on its first n bytes: on all of them, or on more than a request may have
@@ -111,7 +111,7 @@ wrote s out {w} {out′} e h =
 
 module _ (s : List ℕ) (ended : Bool) (out : List ℕ) (n : ℕ) {w : ℕ} {out′ : List ℕ} (answer : (w, out′) ≡ answered (take n s) out) where
   -- the answer has no room
-  pub turn-full : (0 < w → ⊥) → n ≤ 65536 → Turn s false ended out out′ (record { used = 0; written = 0; within = false })
+  pub turn-full : (0 < w → ⊥) → n ≤ min (indexOf 10 s) 65536 → Turn s false ended out out′ (record { used = 0; written = 0; within = false })
   turn-full e h = at (ltb (length out) (length (take n s) + 128)) refl
     where
       at : (b : Bool) → ltb (length out) (length (take n s) + 128) ≡ b
@@ -137,7 +137,7 @@ module _ (s : List ℕ) (ended : Bool) (out : List ℕ) (n : ℕ) {w : ℕ} {out
               writtenFits = answered-fits (take n s) out answer kept;
               behind = text .behind;
             };
-        goesOn = λ _ _. used-some s .1 (ready-some ended s e);
+        progress = λ _ _. used-some s .1 (ready-some ended s e);
       }
     where
       text : Wrote (take n s) out w out′
@@ -178,21 +178,21 @@ module _ {s out₀ out ys : List ℕ} {within ended goes : Bool} {u w : ℕ} {q 
 
   pub turn-again : (u ≡ 0 → w ≡ 0)
       → Turn s within ended out₀ (putMid w (length out - w) out ys) (record { used = u + q .used; written = w + q .written; within = q .within })
-  turn-again start = record { done = done-again; goesOn = at (ltb 0 u) refl }
+  turn-again start = record { done = done-again; progress = at (ltb 0 u) refl }
     where
-      at : (b : Bool) → ltb 0 u ≡ b → ready ended s ≡ true → 65664 ≤ length out₀ → 0 < u + q .used
+      at : (b : Bool) → ltb 0 u ≡ b → ready ended s ≡ true → min (indexOf 10 s) 65536 + 128 ≤ length out₀ → 0 < u + q .used
       at true k e room = let some : 0 < u = ltb-true _ _ k in omega arith
       at false k e room =
           let none : u ≡ 0 = omega (arith, ltb-false 0 u k) in
           let turn = rw (part-from u s, part-from w out, none, start none) at next in
-          omega (arith, turn .goesOn e (omega arith))
+          omega (arith, turn .progress e (omega arith))
 
 -- bytes of which none was used, though an answer had room, are no more than a request may have
 pub left-short : {s out out′ : List ℕ} {within ended : Bool} {r : Answered} → Turn s within ended out out′ r
     → r .used ≡ 0 → 65664 ≤ length out → length s ≤ 65535
 unfolding ready
-left-short {s} {ended = ended} turn none room = at (ltb 65535 (length s)) refl
+left-short {s} {out} {ended = ended} turn none room = at (ltb 65535 (length s)) refl
   where
     at : (b : Bool) → ltb 65535 (length s) ≡ b → length s ≤ 65535
-    at true k = absurd (omega (arith, turn .goesOn (rw (k, or-true)) room))
+    at true k = absurd (omega (arith, turn .progress (rw (k, or-true)) (omega arith)))
     at false k = ltb-false _ _ k

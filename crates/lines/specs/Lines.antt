@@ -1,8 +1,8 @@
 -- The lines of an input, and what is answered to them. An input is the list of its bytes; LF is 10.
 use mathlib.Core.Path.{_≡_}
-use mathlib.Core.Bool.{Bool, true, false, cond, _&&_, _||_}
+use mathlib.Core.Bool.{Bool, true, cond, _&&_, _||_}
 use mathlib.Core.List.{List, [], _∷_, _++_}
-use Prim.Native.Nat.{ℕ, _-_, _<_, _≤_}
+use Prim.Native.Nat.{ℕ, _+_, _-_, _<_, _≤_, min}
 use lib.Dec.{eqb, ltb}
 use lib.ListN.{length, take, drop}
 use Rattle.bytes.specs.Bytes.{indexOf}
@@ -51,10 +51,10 @@ pub record Done (s : List ℕ) (within ended : Bool) (out out′ : List ℕ) (r 
   -- the bytes of out behind the answers are as they were
   pub behind : drop (r .written) out′ ≡ drop (r .written) out
 
--- besides, a line that can be answered is, given room for the longest answer
+-- besides, a line that can be answered is, given room for 128 bytes more than it has, or than the 65,536 that tell a longer one
 pub record Turn (s : List ℕ) (within ended : Bool) (out out′ : List ℕ) (r : Answered) : Type 0 where
   pub done : Done s within ended out out′ r
-  pub goesOn : ready ended s ≡ true → 65664 ≤ length out → 0 < r .used
+  pub progress : ready ended s ≡ true → min (indexOf 10 s) 65536 + 128 ≤ length out → 0 < r .used
 
 -- how many bytes stand from a place on, and s with these at the front
 unfoldable pub movedToFront : List ℕ → ℕ → ℕ × List ℕ

@@ -2,8 +2,6 @@
 use bytes::scan::find;
 use desk::answer;
 ghost use mathlib.Core.Path.{_≡_};
-ghost use mathlib.Core.List.{_++_};
-ghost use lib.ListN.{drop};
 ghost use Rattle.lines.specs.Lines.{Turn, ready, movedToFront};
 ghost use Rattle.bytes.specs.Bytes.{indexOf};
 

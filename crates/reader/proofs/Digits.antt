@@ -10,12 +10,9 @@ use lib.Dec.{leb, ltb}
 use lib.ListN.{length, drop, getD, drop-of-length-le}
 use lib.Seq.{drop-cons}
 use borrow.Author.Tests.{le-leb, lt-leb, lt-ltb, leb-true, not-false}
+use Rattle.counts.proofs.Checks.{both}
 use Rattle.reader.specs.Numbers.{isDigit, allDigits, decimalAfter, decimal, digitsUpTo, number}
 use Rattle.reader.specs.declared.numbers.Number.the-variants.{Value, Bad}
-
-pub both : (a b : Bool) → (a && b) ≡ true → (a ≡ true) × (b ≡ true)
-both true b e = (refl, e)
-both false b e = (e, cc)
 
 -- what a loop knows of a byte that `is_digit` let pass
 pub record Digit (x : ℕ) : Type 0 where

@@ -46,6 +46,7 @@ returns-3 c =
     let args = c .before .before .before .before .before .before .before .before .before .before .before .before .before .args in
     let if3 = c .before .before .before .before .before .before .if3 in
     let answer = c .before .before .before .answer in
+    let q = found (args .s .now) (c .before .before .before .before .before .before .before .before .before .before .find .ensures .0) in
     rw (if1 .left)
     (turn-full (args .s .now) _ (args .out .now) (if3 .length) (answer .ensures) (λ h. omega arith)
     (⊎-elim (λ w. omega arith) (λ w. omega arith) (if3 .came)))

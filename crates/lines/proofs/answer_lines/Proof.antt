@@ -57,7 +57,7 @@ same-length : tie.Need-same-length Inv-loop μ-loop
 same-length c = c .before .loop .inv .1
 
 returns : tie.Need-returns Inv-loop μ-loop
-returns c = record { done = c .before .loop .inv .0; goesOn = λ e _. omega (arith, ready-some _ _ e) }
+returns c = record { done = c .before .loop .inv .0; progress = λ e _. omega (arith, ready-some _ _ e) }
 
 same-length-2 : tie.Need-same-length-2 Inv-loop μ-loop
 same-length-2 c =

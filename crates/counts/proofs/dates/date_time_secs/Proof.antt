@@ -34,7 +34,7 @@ date-time-to-secs-requires c κs =
     let f = s .fits .year in
     let a = s .args in
     let good = good-fields (a .year) (a .month) (a .day) (a .hour) (a .min) (a .sec) (a .nano) (sym (found (search) _ (c .enum-told7 .given .1) (gives (pos 0)))) in
-    simp toZ-ofZ (s .pre, good .0, good .1)
+    simp toZ-ofZ (s .pre, good .0 .valid, good .0 .time)
 
 returns : tie.Need-returns
 unfolding dateTimeSecs

@@ -1,6 +1,6 @@
 -- `counts::first_bad_field`: at each way out the tests before it were passed, in 01's order.
 use mathlib.Core.Path.{_≡_, refl, sym, ap, _∙_}
-use mathlib.Core.Bool.{true, false}
+use mathlib.Core.Bool.{true}
 use native.Mathlib.Omega.{arith}
 use lib.Dec.{leb}
 use mir.Facts.{toZ-ofZ}

@@ -11,12 +11,12 @@ use Rattle.integers.proofs.Signed.{size-law}
 use Rattle.integers.proofs.Machine.{signed, known, known64}
 use Rattle.integers.proofs.Sums.{inside}
 use Rattle.errors.specs.Refusals.{Outcome, gives}
-use Rattle.calendar.specs.Walk.{date, Valid}
-use Rattle.calendar.specs.Moments.{ValidTime, secondsOf}
+use Rattle.calendar.specs.Walk.{date}
+use Rattle.calendar.specs.Moments.{secondsOf}
 use Rattle.calendar.proofs.Moments.{seconds-near}
 use Rattle.counts.specs.Counts.{fieldsChecked, dateTimeSecs}
 use Rattle.counts.proofs.Checks.{no-sum, exact-one}
-use Rattle.counts.proofs.Fields.{at-field, good-fields}
+use Rattle.counts.proofs.Fields.{at-field, Good, good-fields}
 use Rattle.counts.proofs.dates.near_secs.Statement.{statement}
 use Rattle.counts.proofs.dates.near_secs.Tie as tie
 
@@ -25,15 +25,15 @@ module _ (k : tie.After-enum-told) where
   passed : (rest : Outcome ℤ) → let a = k .before .before .before .args in rest ≡ fieldsChecked (a .year) (a .month) (a .day) (a .hour) (a .min) (a .sec) (a .nano) rest
   passed = at-field _ _ _ _ _ _ (toZ-ofZ {w = w64} (k .before .before .before .fits .year)) (k .enum-told .given .1) (k .before .before .first-bad-field .ensures)
 
-  good : let a = k .before .before .before .args in Valid (date (a .year) (a .month) (a .day)) × ValidTime (record { hour = a .hour; minute = a .min; second = a .sec })
-  good = let a = k .before .before .before .args in good-fields (a .year) (a .month) (a .day) (a .hour) (a .min) (a .sec) (a .nano) (sym (passed (gives (pos 0))))
+  good : let a = k .before .before .before .args in Good (a .year) (a .month) (a .day) (a .hour) (a .min) (a .sec) (a .nano)
+  good = let a = k .before .before .before .args in good-fields (a .year) (a .month) (a .day) (a .hour) (a .min) (a .sec) (a .nano) (sym (passed (gives (pos 0)))) .0
 
 secs-from-1970-requires : tie.Need-secs-from-1970-requires
 secs-from-1970-requires c κs =
     let s = c .before .before .before .before .before in
     let f = s .fits .year in
     let g = good (c .before .before) in
-    simp toZ-ofZ (s .pre, g .0, g .1)
+    simp toZ-ofZ (s .pre, g .valid, g .time)
 
 -- the call's result, and the sum
 module _ (k : tie.After-secs-from-1970) where
@@ -43,7 +43,7 @@ module _ (k : tie.After-secs-from-1970) where
   small : natAbs (k .secs-from-1970 .result) ≤ 400_000_000_000_000_000
   small =
       let g = good (k .before .before .before) in
-      subst (λ z. natAbs z ≤ 400_000_000_000_000_000) (sym result) (seconds-near _ (k .before .before .before .before .before .before .pre) (g .0) (g .1))
+      subst (λ z. natAbs z ≤ 400_000_000_000_000_000) (sym result) (seconds-near _ (k .before .before .before .before .before .before .pre) (g .valid) (g .time))
 
 sub-t15 : tie.Need-sub-t15
 sub-t15 c =
