@@ -1,8 +1,9 @@
 -- The end of a row of digits: zeros left out, or digits cut off.
-use mathlib.Core.Path.{_≡_, refl, ap}
+use mathlib.Core.Path.{_≡_, refl, sym, ap, _∙_}
 use mathlib.Core.Bool.{cond}
 use mathlib.Core.List.{List, [], _∷_, _++_}
-use Prim.Native.Nat.{ℕ, zero, suc, _+_, _-_, _/_, _%_, _<_, _≤_}
+use Prim.Native.Nat.{ℕ, zero, suc, _+_, _-_, _*_, _/_, _%_, _^_, _<_, _≤_}
+use native.Mathlib.Nat.{pow-suc, pow-zero, add-suc, add-zero, mul-one, mul-assoc}
 use native.Mathlib.Numerals.{sub-one}
 use native.Mathlib.Omega.{arith}
 use lib.Dec.{ltb}
@@ -30,6 +31,15 @@ pub trim-down : (w n : ℕ) → 0 < w → n % 10 ≡ 0 → trim (digits w n) ≡
 unfolding digits
 trim-down zero n h e = absurd (omega arith)
 trim-down (suc w) n h e = rw (sub-one, e) (trim-zero (digits w (n / 10)))
+
+-- k zeros at the end may go at once
+pub trim-zeros : (k w n : ℕ) → trim (digits (w + k) (n * 10 ^ k)) ≡ trim (digits w n)
+trim-zeros zero w n = rw (add-zero, pow-zero, mul-one)
+trim-zeros (suc k) w n =
+    let x = n * 10 ^ k in
+    let e : n * 10 ^ suc k ≡ x * 10 = rw pow-suc (sym (mul-assoc n (10 ^ k) 10)) in
+    let d : x * 10 / 10 ≡ x = omega arith in
+    rw (e, add-suc) (trim-down (suc (w + k)) (x * 10) (omega arith) (omega arith) ∙ rw (sub-one, d) (trim-zeros k w n))
 
 pub trim-stop : (w n : ℕ) → (0 < w → n % 10 ≡ 0 → ⊥) → trim (digits w n) ≡ digits w n
 unfolding digits trim

@@ -13,11 +13,16 @@ pub sets-append : (l : List ℕ) (i : ℕ) (a b : List ℕ) → sets l i (a ++ b
 sets-append l i [] b = rw add-zero
 sets-append l i (x ∷ a) b = sets-append (set l i x) (suc i) a b ∙ rw (suc-add, add-suc)
 
--- a store behind a run may come first
-pub sets-set : (l : List ℕ) (i : ℕ) (a : List ℕ) (j d : ℕ) → i + length a ≤ j → sets (set l j d) i a ≡ set (sets l i a) j d
+-- a store behind a run may come first, and so may a run
+sets-set : (l : List ℕ) (i : ℕ) (a : List ℕ) (j d : ℕ) → i + length a ≤ j → sets (set l j d) i a ≡ set (sets l i a) j d
 sets-set l i [] j d h = refl
 sets-set l i (x ∷ a) j d h =
     ap (λ k. sets k (suc i) a) (set-comm l j i d x (omega arith)) ∙ sets-set (set l i x) (suc i) a j d (omega arith)
+
+pub sets-sets : (l : List ℕ) (i : ℕ) (a : List ℕ) (j : ℕ) (b : List ℕ) → i + length a ≤ j → sets (sets l j b) i a ≡ sets (sets l i a) j b
+sets-sets l i a j [] h = refl
+sets-sets l i a j (x ∷ b) h =
+    sets-sets (set l j x) i a (suc j) b (omega arith) ∙ ap (λ k. sets k (suc j) b) (sets-set l i a j x h)
 
 -- the part of a line from `at` on, with a text stored at its front, put back into the line
 pub put-back : (s : List ℕ) (at : ℕ) (text ys : List ℕ) → at ≤ length s → length text ≤ length s - at

@@ -22,18 +22,31 @@ pub(crate) fn split_last_digit(n: u32) -> Split
     }
 }
 
-// The last `width` digits of n, from at on; the last one is written first.
+// Two digits as one number of 16 bits, so that a single store writes them.
+fn put_pair(s: &mut [u8], at: usize, n: u32)
+    requires { ⌜ (at + 2 ≤ length (now s)) × (n < 100) ⌝ }
+    ensures { λ _. ⌜ now (s .exit) ≡ sets (now (s .entry)) at (digits 2 n) ⌝ }
+{
+    let tens = split_last_digit(n).rest;
+    let pair = 12336 + n * 256 - tens * 2559;
+    s[at] = (pair % 256) as u8;
+    s[at + 1] = (pair / 256) as u8;
+}
+
+// The last `width` digits of n, from at on; the last two are written first.
 pub(crate) fn put_digits(s: &mut [u8], at: usize, width: usize, n: u32)
     requires { ⌜ (at + width ≤ length (now s)) × (n < 2 ^ 30) ⌝ }
     ensures { λ _. ⌜ now (s .exit) ≡ sets (now (s .entry)) at (digits width n) ⌝ }
 {
     let mut left = width;
     let mut m = n;
-    while 0 < left {
-        left -= 1;
-        let split = split_last_digit(m);
-        s[at + left] = 48 + split.digit;
-        m = split.rest;
+    while 1 < left {
+        left -= 2;
+        put_pair(s, at + left, m % 100);
+        m /= 100;
+    }
+    if 0 < left {
+        s[at] = 48 + split_last_digit(m).digit;
     }
 }
 
@@ -58,5 +71,5 @@ pub(crate) fn put_field(s: &mut [u8], at: usize, separator: u8, n: u8)
     ensures { λ _. ⌜ now (s .exit) ≡ sets (now (s .entry)) at (field separator n) ⌝ }
 {
     s[at] = separator;
-    put_digits(s, at + 1, 2, n as u32);
+    put_pair(s, at + 1, n as u32 % 100);
 }

@@ -94,6 +94,11 @@ fn trimmed(nanos: u32) -> Part
 {
     let mut width = 9;
     let mut value = nanos;
+    // Whole milliseconds, and whole seconds, end in six zeros.
+    if nanos % 1000000 == 0 {
+        width = 3;
+        value = nanos / 1000000;
+    }
     while 0 < width {
         let split = split_last_digit(value);
         if split.digit != 0 {

@@ -22,30 +22,45 @@ loop-holds c = search needs
 sub-left : tie.Need-sub-left Inv-loop μ-loop
 sub-left c = omega arith
 
+add-put-pair : tie.Need-add-put-pair Inv-loop μ-loop
+add-put-pair c = omega arith
+
+put-pair-requires : tie.Need-put-pair-requires Inv-loop μ-loop
+put-pair-requires c κs = (omega arith, omega arith)
+
+loop-less : tie.Need-loop-less Inv-loop μ-loop
+loop-less c = omega arith
+
+loop-again : tie.Need-loop-again Inv-loop μ-loop
+loop-again c =
+    let v = c .before .before .before .before .before .loop .inv in
+    (omega arith, omega arith, c .before .before .put-pair .kept .0 ∙ v .2, v .3 ∙ last-first 2 _ _ (c .before .before .before .before .before .loop .left) _ (omega arith) ∙ rw (c .before .before .put-pair .ensures))
+
 split-last-digit-requires : tie.Need-split-last-digit-requires Inv-loop μ-loop
 split-last-digit-requires c κs = omega arith
 
 add-s : tie.Need-add-s Inv-loop μ-loop
 add-s c = omega arith
 
-add-s-2 : tie.Need-add-s-2 Inv-loop μ-loop
-add-s-2 c = omega arith
-
 slice-write-s : tie.Need-slice-write-s Inv-loop μ-loop
 slice-write-s c = omega arith
 
-loop-less : tie.Need-loop-less Inv-loop μ-loop
-loop-less c = omega arith
-
-loop-again : tie.Need-loop-again Inv-loop μ-loop
-loop-again c = (omega arith, omega arith, simp length-set (c .before .before .before .loop .inv .2), c .before .before .before .loop .inv .3 ∙ rw (c .before .split-last-digit .ensures .0, c .before .split-last-digit .ensures .1) (last-first _ _ (c .before .before .before .loop .left) _ (omega arith)))
-
 same-length : tie.Need-same-length Inv-loop μ-loop
-same-length c = c .before .loop .inv .2
+same-length c = simp length-set (c .before .before .before .before .loop .inv .2)
 
 returns : tie.Need-returns Inv-loop μ-loop
 unfolding digits
-returns c = let z : c .before .loop .left ≡ 0 = omega arith in sym (c .before .loop .inv .3 ∙ rw z)
+returns c =
+    let k = c .before .before .before .before in
+    let o : k .loop .left ≡ 1 = omega arith in
+    sym (k .loop .inv .3 ∙ rw (o, c .before .split-last-digit .ensures .1))
+
+same-length-2 : tie.Need-same-length-2 Inv-loop μ-loop
+same-length-2 c = c .before .before .loop .inv .2
+
+returns-2 : tie.Need-returns-2 Inv-loop μ-loop
+unfolding digits
+returns-2 c = let z : c .before .before .loop .left ≡ 0 = omega arith in sym (c .before .before .loop .inv .3 ∙ rw z)
 
 pub put-digits-spec : {M : Type 1} → statement M
 put-digits-spec =
@@ -55,11 +70,14 @@ put-digits-spec =
     μ-loop
     loop-holds
     sub-left
-    split-last-digit-requires
-    add-s
-    add-s-2
-    slice-write-s
+    add-put-pair
+    put-pair-requires
     loop-less
     loop-again
+    split-last-digit-requires
+    add-s
+    slice-write-s
     same-length
-    returns)
+    returns
+    same-length-2
+    returns-2)

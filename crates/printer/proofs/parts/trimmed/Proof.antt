@@ -1,12 +1,17 @@
--- `printer::parts::trimmed`: a last digit 0 may go at once (`trim-down`), and any other stays (`trim-stop`).
-use mathlib.Core.Path.{_≡_, _∙_}
-use Prim.Native.Nat.{_≤_, _<_, _^_}
+-- `printer::parts::trimmed`: zeros at the end may go at once (`trim-zeros`, `trim-down`), and any other digit stays (`trim-stop`).
+use mathlib.Core.Logic.{⊎-elim}
+use mathlib.Core.Path.{_≡_, ap, _∙_}
+use Prim.Native.Nat.{ℕ, _*_, _/_, _%_, _≤_, _<_, _^_}
 use native.Mathlib.Omega.{arith}
 use borrow.Author.Needs.{needs}
 use Rattle.printer.specs.Text.{digits, trim, fractionText}
-use Rattle.printer.proofs.Fraction.{trim-down, trim-stop}
+use Rattle.printer.proofs.Fraction.{trim-down, trim-zeros, trim-stop}
 use Rattle.printer.proofs.parts.trimmed.Statement.{statement}
 use Rattle.printer.proofs.parts.trimmed.Tie as tie
+
+-- six zeros at the end
+six : (n : ℕ) → n % 1000000 ≡ 0 → trim (digits 9 n) ≡ trim (digits 3 (n / 1000000))
+six n h = let e : n ≡ n / 1000000 * 1000000 = omega arith in ap (λ x. trim (digits 9 x)) e ∙ trim-zeros 6 3 (n / 1000000)
 
 abbrev Inv-loop : tie.InvT-loop
 Inv-loop nanos width₀ value₀ width value = (width ≤ 9) × (value < 2 ^ 30) × (trim (digits 9 nanos) ≡ trim (digits width value))
@@ -15,7 +20,7 @@ abbrev μ-loop : tie.MeasureT-loop
 μ-loop nanos width₀ value₀ width value = width
 
 loop-holds : tie.Need-loop-holds Inv-loop μ-loop
-loop-holds c = search needs
+loop-holds c = ⊎-elim (λ w. (omega arith, omega arith, rw (w .1, w .2) (six _ (w .0 .taken)))) (λ w. (omega arith, omega arith, rw (w .1, w .2))) (c .if1 .came)
 
 split-last-digit-requires : tie.Need-split-last-digit-requires Inv-loop μ-loop
 split-last-digit-requires c κs = omega arith
@@ -34,7 +39,7 @@ loop-less : tie.Need-loop-less Inv-loop μ-loop
 loop-less c = omega arith
 
 loop-again : tie.Need-loop-again Inv-loop μ-loop
-loop-again c = (omega arith, omega arith, c .before .before .before .before .loop .inv .2 ∙ rw (c .before .before .split-last-digit .ensures .0) (trim-down _ _ (omega arith) (omega arith)))
+loop-again c = (omega arith, omega arith, c .before .before .before .before .before .loop .inv .2 ∙ rw (c .before .before .before .split-last-digit .ensures .0) (trim-down _ _ (omega arith) (omega arith)))
 
 behind-point-requires-2 : tie.Need-behind-point-requires-2 Inv-loop μ-loop
 behind-point-requires-2 c κs = search needs

@@ -1,0 +1,68 @@
+-- `printer::digits::put_pair`: the two bytes are the two digits (`pair-first`, `pair-second`).
+use mathlib.Core.Path.{_≡_}
+use Prim.Native.Nat.{_/_}
+use native.Mathlib.Numerals.{add-one}
+use native.Mathlib.Omega.{arith}
+use lib.ListN.{length-set}
+use borrow.Author.Needs.{needs}
+use Rattle.printer.specs.Text.{digits}
+use Rattle.printer.proofs.Decimal.{pair-first, pair-second}
+use Rattle.printer.proofs.digits.put_pair.Statement.{statement}
+use Rattle.printer.proofs.digits.put_pair.Tie as tie
+
+split-last-digit-requires : tie.Need-split-last-digit-requires
+split-last-digit-requires c κs = search needs
+
+mul-pair : tie.Need-mul-pair
+mul-pair c = search needs
+
+add-pair : tie.Need-add-pair
+add-pair c = search needs
+
+mul-pair-2 : tie.Need-mul-pair-2
+mul-pair-2 c = search needs
+
+sub-pair : tie.Need-sub-pair
+sub-pair c = search needs
+
+cast-s : tie.Need-cast-s
+cast-s c = search needs
+
+slice-write-s : tie.Need-slice-write-s
+slice-write-s c = search needs
+
+cast-s-2 : tie.Need-cast-s-2
+cast-s-2 c = search needs
+
+add-s : tie.Need-add-s
+add-s c = search needs
+
+slice-write-s-2 : tie.Need-slice-write-s-2
+slice-write-s-2 c = simp length-set (omega arith)
+
+same-length : tie.Need-same-length
+same-length c = search needs
+
+returns : tie.Need-returns
+unfolding digits
+returns c =
+    let n = c .before .before .args .n in
+    let t : c .split-last-digit .result .rest ≡ n / 10 = c .split-last-digit .ensures .0 in
+    rw (t, pair-first n (omega arith), pair-second n (omega arith), add-one)
+
+pub put-pair-spec : {M : Type 1} → statement M
+put-pair-spec =
+    tie.close
+    (tie.spec
+    split-last-digit-requires
+    mul-pair
+    add-pair
+    mul-pair-2
+    sub-pair
+    cast-s
+    slice-write-s
+    cast-s-2
+    add-s
+    slice-write-s-2
+    same-length
+    returns)
