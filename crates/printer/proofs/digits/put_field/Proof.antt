@@ -1,8 +1,9 @@
 -- `printer::digits::put_field`: two digits are those of the remainder by 100 (`digits-low`).
-use mathlib.Core.Path.{_∙_}
+use mathlib.Core.Path.{ap, _∙_}
 use native.Mathlib.Numerals.{add-one}
 use native.Mathlib.Omega.{arith}
 use lib.ListN.{length-set}
+use lib.Seq.{sets}
 use borrow.Author.Needs.{needs}
 use Rattle.printer.proofs.Decimal.{digits-low}
 use Rattle.printer.proofs.digits.put_field.Statement.{statement}
@@ -21,7 +22,9 @@ same-length : tie.Need-same-length
 same-length c = c .before .before .put-pair .kept .0 ∙ simp length-set
 
 returns : tie.Need-returns
-returns c = c .before .before .put-pair .ensures ∙ rw (add-one, digits-low 2 2 _ (omega arith))
+returns c =
+    c .before .before .put-pair .ensures
+    ∙ rw add-one (ap (sets _ _) (digits-low 2 2 (c .before .before .before .before .before .args .n) (omega arith)))
 
 pub put-field-spec : {M : Type 1} → statement M
 put-field-spec =

@@ -1,9 +1,9 @@
 -- `printer::digits::put_pair`: the two bytes are the two digits (`pair-first`, `pair-second`).
 use mathlib.Core.Path.{_≡_}
-use Prim.Native.Nat.{_/_}
+use Prim.Native.Nat.{suc, _/_}
 use native.Mathlib.Numerals.{add-one}
 use native.Mathlib.Omega.{arith}
-use lib.ListN.{length-set}
+use lib.ListN.{set, length-set}
 use borrow.Author.Needs.{needs}
 use Rattle.printer.specs.Text.{digits}
 use Rattle.printer.proofs.Decimal.{pair-first, pair-second}
@@ -48,7 +48,9 @@ unfolding digits
 returns c =
     let n = c .before .before .args .n in
     let t : c .split-last-digit .result .rest ≡ n / 10 = c .split-last-digit .ensures .0 in
-    rw (t, pair-first n (omega arith), pair-second n (omega arith), add-one)
+    let first = pair-first n (omega arith) in
+    let second = pair-second n (omega arith) in
+    rw (t, add-one) (λ i. set (set (c .before .before .args .s .now) (c .before .before .args .at) (first i)) (suc (c .before .before .args .at)) (second i))
 
 pub put-pair-spec : {M : Type 1} → statement M
 put-pair-spec =
