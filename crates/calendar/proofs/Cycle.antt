@@ -1,7 +1,9 @@
--- The 400-year cycle: its years 100 a + 4 b + c, as the steps find them, and that the walk has it.
+-- The 400-year cycle: the years that its days are found in, and that the walk has it.
 use mathlib.Core.Path.{_≡_, refl, sym, ap, _∙_}
 use mathlib.Core.Bool.{Bool, true, false}
 use Prim.Native.Nat.{ℕ, suc, _+_, _*_, _-_, _/_, _≤_, _<_, min}
+use native.Mathlib.Decide.{decLt}
+use native.Mathlib.Numerals.{add-one}
 use native.Mathlib.Omega.{arith}
 use lib.ListN.{getD}
 use Rattle.integers.specs.Integers.{floorDiv}
@@ -9,47 +11,68 @@ use lib.IntN.{ℤ, pos, negsuc, _+ℤ_, _-ℤ_, _*ℤ_}
 use Rattle.integers.proofs.Signed.{plus, minus, eqZ, add-law, diff-law}
 use Rattle.calendar.specs.Walk.{divides, isLeap, monthRow, monthLength, date, walk}
 use Rattle.calendar.specs.Closed.{yearLength, leapYears, yearStart, sumTo, dayOfYear, dayNumber, InCycle, InYear}
-use Rattle.calendar.proofs.Years.{startUp, start-up, start-up-suc, some-length, length-cycle, year-start-cycle}
+use Rattle.calendar.proofs.Years.{startUp, start-up, start-up-suc, length-cycle, year-start-cycle}
 use Rattle.calendar.proofs.Walk.{walk-valid, day-walk, reads}
 
-module _ (a b c : ℕ) (a₃ : a ≤ 3) (b₂₄ : b ≤ 24) (c₃ : c ≤ 3) where
-  fours : (a * 100 + b * 4 + c + 3) / 4 ≡ 25 * a + b + min 1 c
-  fours = omega arith
-
-  hundreds : (a * 100 + b * 4 + c + 99) / 100 ≡ a + min 1 (b + c)
-  hundreds = omega arith
-
-  cycles : (a * 100 + b * 4 + c + 399) / 400 ≡ min 1 (a + b + c)
-  cycles = omega arith
-
-  start-of : startUp (a * 100 + b * 4 + c) + min 1 (b + c) ≡ 36524 * a + 1461 * b + 365 * c + min 1 c + min 1 (a + b + c)
-  unfolding startUp
-  start-of = rw (fours, hundreds, cycles) (omega arith)
-
 -- a day that lies d days after its year's start
-in-cycle : (n y d : ℕ) → y < 400 → startUp y + d ≡ n → d < yearLength (isLeap (pos y)) → InCycle n y d
-in-cycle n y d h e l = record { year-to = h; is = ap (λ z. z +ℤ pos d) (start-up y) ∙ ap pos e; day-to = l }
+in-cycle : (n y d : ℕ) → y < 400 → startUp y + d ≡ n → n < startUp (suc y) → InCycle n y d
+in-cycle n y d l e h = record { year-to = l; is = ap (λ z. z +ℤ pos d) (start-up y) ∙ ap pos e; day-to = omega (arith, start-up-suc y) }
 
--- any year has 365 days
-module _ (n a b c d : ℕ) (a₃ : a ≤ 3) (b₂₄ : b ≤ 24) (c₃ : c ≤ 3) where
-  pub in-any : (y : ℕ) → a * 100 + b * 4 + c ≡ y → 36524 * a + 1461 * b + 365 * c + min 1 c + min 1 (a + b + c) + d ≡ n + min 1 (b + c) → d < 365 → InCycle n y d
-  in-any y i e h =
-      in-cycle n y d (omega arith) (omega (arith, start-of a b c a₃ b₂₄ c₃, ap startUp i)) (omega (arith, some-length (isLeap (pos y))))
+-- where the centuries start, and the other years
+start-first : (a : ℕ) → a ≤ 3 → startUp (a * 100) ≡ 36524 * a + min 1 a
+unfolding startUp
+start-first a l = omega arith
 
--- the first of four years has 366, but where a century but the first starts
-module _ (n a b d : ℕ) (a₃ : a ≤ 3) (b₂₄ : b ≤ 24) (first : min 1 a ≤ b) where
-  leap : yearLength (isLeap (pos (a * 100 + b * 4))) ≡ 366
-  leap =
-      let y = a * 100 + b * 4 in
-      let e : startUp (y + 0) ≡ startUp y = ap startUp (omega arith) in
-      let f : startUp (y + 1) ≡ startUp (suc y) = ap startUp (omega arith) in
-      omega (arith, start-of a b 0 a₃ b₂₄ (omega arith), start-of a b 1 a₃ b₂₄ (omega arith), start-up-suc y)
+start-later : (a b : ℕ) → a ≤ 3 → 1 ≤ b → b ≤ 100 → startUp (a * 100 + b) ≡ 36524 * a + (b * 1461 + 3) / 4
+unfolding startUp
+start-later a b l h k =
+    let fours : (a * 100 + b + 3) / 4 ≡ 25 * a + (b + 3) / 4 = omega arith in
+    let hundreds : (a * 100 + b + 99) / 100 ≡ a + 1 = omega arith in
+    let cycles : (a * 100 + b + 399) / 400 ≡ 1 = omega arith in
+    let years : (b * 1461 + 3) / 4 ≡ 365 * b + (b + 3) / 4 = omega arith in
+    rw (fours, hundreds, cycles, years) (omega arith)
 
-  pub in-leap : 36524 * a + 1461 * b + d ≡ n → d < 366 → InCycle n (a * 100 + b * 4) d
-  in-leap e h =
-      let y = a * 100 + b * 4 in
-      let f : startUp (y + 0) ≡ startUp y = ap startUp (omega arith) in
-      in-cycle n y d (omega arith) (omega (arith, start-of a b 0 a₃ b₂₄ (omega arith))) (omega (arith, leap))
+-- the century, its days, and the year of the century, as the quotients find them
+module _ (n : ℕ) (top : n < 146097) where
+  abbrev a : ℕ
+  a = n * 4 / 146097
+
+  abbrev m : ℕ
+  m = n - a * 146097 / 4
+
+  abbrev b : ℕ
+  b = m * 4 / 1461
+
+  century : (a ≤ 3) × (a * 146097 / 4 ≡ 36524 * a)
+  century = (omega arith, omega arith)
+
+  split : (m + 36524 * a ≡ n) × (b ≤ 99)
+  split = (omega (arith, century), omega (arith, century))
+
+  pub some : 0 < a → 1 ≤ m
+  some h = omega (arith, century)
+
+  next : (y : ℕ) → startUp (y + 1) ≡ startUp (suc y)
+  next y = ap startUp (add-one y)
+
+  -- the first year of a common century, and any other
+  pub in-common : b ≡ 0 → 0 < a → InCycle n (a * 100) (m - 1)
+  in-common e h =
+      in-cycle n (a * 100) (m - 1) (omega (arith, century)) (omega (arith, start-first a (century .0), split, some h))
+      (omega (arith, next (a * 100), start-later a 1 (century .0) (omega arith) (omega arith), split))
+
+  pub in-other : (b ≡ 0 → a ≡ 0) → InCycle n (a * 100 + b) (m - (b * 1461 + 3) / 4)
+  in-other h = go (decLt 0 b)
+    where
+      go : Dec (0 < b) → InCycle n (a * 100 + b) (m - (b * 1461 + 3) / 4)
+      go (yes l) =
+          let e : startUp (a * 100 + (b + 1)) ≡ startUp (suc (a * 100 + b)) = ap startUp (omega arith) in
+          in-cycle n _ _ (omega (arith, century, split)) (omega (arith, start-later a b (century .0) l (omega (arith, split)), split)) (omega (arith, start-later a (b + 1) (century .0) (omega arith) (omega (arith, split)), split))
+      go (no l) =
+          let z : b ≡ 0 = omega arith in
+          let e : startUp (a * 100 + b) ≡ startUp (a * 100) = ap startUp (omega arith) in
+          let f : startUp (a * 100 + 1) ≡ startUp (suc (a * 100 + b)) = ap startUp (omega arith) in
+          in-cycle n _ _ (omega (arith, century, split)) (omega (arith, start-first a (century .0), split, h z)) (omega (arith, start-later a 1 (century .0) (omega arith) (omega arith), split))
 
 -- ---- from a day of a cycle to its date
 module _ (c : ℤ) (n y d : ℕ) (i : InCycle n y d) where

@@ -1,13 +1,16 @@
 -- Moments: counts of seconds and moments are one to one, and an earlier count is an earlier moment.
-use mathlib.Core.Path.{_≡_, refl, sym, ap, _∙_}
+use mathlib.Core.Path.{_≡_, refl, sym, ap, subst, _∙_}
+use mathlib.Core.Bool.{true}
 use Prim.Native.Nat.{ℕ, _+_, _*_, _/_, _%_, _^_, _≤_, _<_}
 use native.Mathlib.Omega.{arith}
-use lib.IntN.{ℤ, pos, natAbs, _+ℤ_, _-ℤ_, _*ℤ_}
-use lib.Signed.{_<ℤ_}
+use lib.Dec.{T}
+use lib.IntN.{ℤ, pos, negsuc, natAbs, _+ℤ_, _-ℤ_, _*ℤ_}
+use lib.Signed.{_<ℤ_, leZ}
 use mir.Syntax.{w64}
 use mir.Val.{SFits}
+use borrow.Author.Tests.{leb-true}
 use Rattle.integers.specs.Integers.{Floor, floorDiv, floorMod}
-use Rattle.integers.proofs.Signed.{apart, size-law, add-law, diff-law, times-law, Tri, before, same, after, tri}
+use Rattle.integers.proofs.Signed.{plus, minus, apart, size-law, add-law, diff-law, times-law, Tri, before, same, after, tri}
 use Rattle.integers.proofs.Machine.{two}
 use Rattle.integers.proofs.Floor.{floor-law, floor-one, floor-order, splits, to-floor}
 use Rattle.calendar.specs.declared.Date.{Date}
@@ -21,6 +24,13 @@ use Rattle.calendar.proofs.Months.{day-of-year-end}
 use Rattle.calendar.proofs.Walk.{day-law, walk-valid, day-walk, walk-day, walk-order}
 
 -- ---- sizes
+-- the machine's test, to a fact
+pub le-true : (a b : ℤ) → leZ a b ≡ true → plus a + minus b ≤ plus b + minus a
+le-true (pos a) (pos b) h = omega (arith, leb-true)
+le-true (pos a) (negsuc b) h = absurd (subst T (sym h) tt)
+le-true (negsuc a) (pos b) h = omega arith
+le-true (negsuc a) (negsuc b) h = omega (arith, leb-true)
+
 pub day-near : (d : Date) → Valid d → natAbs (dayNumber d) ≤ natAbs (d .year) * 368 + 800000
 unfolding dayNumber
 day-near d v =

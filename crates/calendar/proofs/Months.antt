@@ -1,17 +1,18 @@
 -- The months of a year: sums of their lengths, the table of these and the arithmetic of those.
-use mathlib.Core.Path.{_≡_, refl, ap, _∙_}
-use mathlib.Core.Bool.{Bool, true, false, cond}
+use mathlib.Core.Path.{_≡_, refl, ap, subst, _∙_}
+use mathlib.Core.Bool.{Bool, true, false, cond, _&&_}
 use mathlib.Core.List.{List, [], _∷_}
 use Prim.Native.Nat.{ℕ, zero, suc, _+_, _*_, _-_, _/_, _≤_, _<_}
 use native.Mathlib.Omega.{arith}
-use lib.Dec.{eqb, leb, ltb, eqb→eq, leb→le, ltb→lt}
+use lib.Dec.{T, eqb, leb, ltb, eqb→eq, leb→le, ltb→lt}
 use lib.IntN.{ℤ}
 use lib.ListN.{getD}
+use mir.Facts.{and-yes}
 use mir.Val.{boolByte}
 use Rattle.calendar.specs.declared.Date.{Date}
 use Rattle.calendar.specs.Walk.{isLeap, monthRow, monthLength, Valid}
 use Rattle.calendar.specs.Closed.{yearLength, sumTo, dayOfYear, InYear}
-use Rattle.calendar.proofs.Table.{at}
+use Rattle.calendar.proofs.Table.{below, at}
 
 pub sum-zero : (row : List ℕ) → sumTo row 0 ≡ 0
 unfolding sumTo
@@ -67,15 +68,6 @@ unfolding doyRow monthRow sumTo
 doy-is true k h = eqb→eq _ _ (at (λ i x. eqb x (sumTo (monthRow true) i)) (doyRow true) tt k (omega arith))
 doy-is false k h = eqb→eq _ _ (at (λ i x. eqb x (sumTo (monthRow false) i)) (doyRow false) tt k (omega arith))
 
--- no months have more than 32 days each
-pub doy-low : (leap : Bool) (k : ℕ) → k ≤ 12 → sumTo (monthRow leap) k ≤ 32 * k
-unfolding doyRow
-doy-low leap k h = omega (arith, doy-is leap k h, low leap)
-  where
-    low : (leap : Bool) → getD (doyRow leap) k 0 ≤ 32 * k
-    low true = leb→le _ _ (at (λ i x. leb x (32 * i)) (doyRow true) tt k (omega arith))
-    low false = leb→le _ _ (at (λ i x. leb x (32 * i)) (doyRow false) tt k (omega arith))
-
 -- a table of two rows, indexed by a flag
 pub flag : (b : Bool) → boolByte b < 2
 flag true = omega arith
@@ -91,6 +83,36 @@ unfolding doyRow
 start-rule true k h = eqb→eq _ _ (at (λ i x. eqb (cond (ltb i 2) ((i * 489 + 8) / 16) ((i * 489 + 8) / 16 - 2 + 1)) x) (doyRow true) tt k (omega arith)) ∙ doy-is true k h
 start-rule false k h = eqb→eq _ _ (at (λ i x. eqb (cond (ltb i 2) ((i * 489 + 8) / 16) ((i * 489 + 8) / 16 - 2 + 0)) x) (doyRow false) tt k (omega arith)) ∙ doy-is false k h
 
+-- the code's arithmetic for the month, from 0, that a day of the year lies in
+abbrev pub monthAt : Bool → ℕ → ℕ
+monthAt leap n = (cond (ltb (n + (2 - boolByte leap)) 61) n (n + (2 - boolByte leap)) * 67 + 30) / 2048
+
+abbrev within : Bool → ℕ → Bool
+within leap n = leb (monthAt leap n) 11 && (leb (sumTo (monthRow leap) (monthAt leap n)) n && ltb n (sumTo (monthRow leap) (monthAt leap n + 1)))
+
+pub month-rule : (leap : Bool) (n : ℕ) → n < yearLength leap → (monthAt leap n ≤ 11) × (sumTo (monthRow leap) (monthAt leap n) ≤ n) × (n < sumTo (monthRow leap) (monthAt leap n + 1))
+unfolding monthRow sumTo yearLength
+month-rule leap n h =
+    let t = and-yes (leb (monthAt leap n) 11) _ (test leap h) in
+    let u = and-yes (leb (sumTo (monthRow leap) (monthAt leap n)) n) _ (t .1) in
+    (leb→le _ _ (t .0), leb→le _ _ (u .0), ltb→lt _ _ (u .1))
+  where
+    test : (leap : Bool) → n < yearLength leap → T (within leap n)
+    test true l = below (within true) 366 tt n l
+    test false l = below (within false) 365 tt n l
+
+-- and for the days before a month in years that start with March, to whose January 306 days go
+abbrev march : Bool → ℕ → ℕ
+march leap m = cond (ltb m 3) (((m + 12) * 979 - 2919) / 32) ((m * 979 - 2919) / 32 + yearLength leap)
+
+pub march-rule : (leap : Bool) (m : ℕ) → 1 ≤ m → m ≤ 12 → march leap m ≡ sumTo (monthRow leap) (m - 1) + 306
+unfolding monthRow sumTo yearLength
+march-rule leap m h l = subst (λ k. march leap k ≡ sumTo (monthRow leap) (k - 1) + 306) {x = suc (m - 1)} {y = m} (omega arith) (eqb→eq _ _ (test leap))
+  where
+    test : (leap : Bool) → T (eqb (march leap (suc (m - 1))) (sumTo (monthRow leap) (suc (m - 1) - 1) + 306))
+    test true = below (λ i. eqb (march true (suc i)) (sumTo (monthRow true) (suc i - 1) + 306)) 12 tt (m - 1) (omega arith)
+    test false = below (λ i. eqb (march false (suc i)) (sumTo (monthRow false) (suc i - 1) + 306)) 12 tt (m - 1) (omega arith)
+
 -- ---- the day of the year
 pub month-end : (d : Date) → 1 ≤ d .month → sumTo (monthRow (isLeap (d .year))) (d .month) ≡ sumTo (monthRow (isLeap (d .year))) (d .month - 1) + monthLength (d .year) (d .month)
 unfolding monthLength
@@ -105,12 +127,13 @@ day-of-year-end d v =
     let row = monthRow (isLeap (d .year)) in
     omega (arith, month-end d (v .month-from), v .day-to, v .day-from, sum-grows row (d .month) 12 (v .month-to), year-sum (isLeap (d .year)))
 
--- the month, counted from 0, that a search for a day of the year stops at
-pub month-found : (year : ℤ) (n k : ℕ) → k < 12 → sumTo (monthRow (isLeap year)) k ≤ n → n < sumTo (monthRow (isLeap year)) (suc k) → InYear year n (k + 1) (n - sumTo (monthRow (isLeap year)) k + 1)
+-- a day of the year that lies in a month, from 0
+pub month-found : (year : ℤ) (n k : ℕ) → (k ≤ 11) × (sumTo (monthRow (isLeap year)) k ≤ n) × (n < sumTo (monthRow (isLeap year)) (k + 1)) → InYear year n (k + 1) (n - sumTo (monthRow (isLeap year)) k + 1)
 unfolding monthLength dayOfYear
-month-found year n k h p q =
+month-found year n k h =
     let row = monthRow (isLeap year) in
     let e : k + 1 - 1 ≡ k = omega arith in
     let l : getD row (k + 1 - 1) 0 ≡ getD row k 0 = ap (λ m. getD row m 0) e in
     let s : sumTo row (k + 1 - 1) ≡ sumTo row k = ap (sumTo row) e in
-    record { valid = record { month-from = omega arith; month-to = omega arith; day-from = omega arith; day-to = omega (arith, sum-suc row k) }; is = omega arith }
+    let u : sumTo row (k + 1) ≡ sumTo row (suc k) = ap (sumTo row) (omega arith) in
+    record { valid = record { month-from = omega arith; month-to = omega (arith, h .0); day-from = omega arith; day-to = omega (arith, sum-suc row k, h .2) }; is = omega (arith, h .1) }

@@ -2,6 +2,8 @@
 use integers::Checked;
 use integers::Parts;
 use integers::add_parts;
+use integers::checked_add;
+use integers::checked_sub;
 use integers::floor_join;
 use integers::floor_split;
 use integers::sub_parts;
@@ -9,7 +11,7 @@ ghost use mathlib.Core.Path.{_≡_};
 ghost use Prim.Native.Nat.{_+_, _-_, _/_, _≤_, _<_};
 ghost use lib.Dec.{leb};
 ghost use lib.IntN.{natAbs, pos, _+ℤ_, _-ℤ_, _*ℤ_};
-ghost use Rattle.integers.specs.Integers.{checked};
+ghost use Rattle.integers.specs.Integers.{Floor, checked};
 ghost use Rattle.calendar.specs.Walk.{isLeap, monthRow, monthLength, Valid, date, walk};
 ghost use Rattle.calendar.specs.Closed.{yearLength, yearStart, sumTo, dayOfYear, dayNumber, InCycle, InYear};
 ghost use Rattle.calendar.specs.Moments.{timeAt, momentAt, ValidTime, secondOfDay, secondsOf};
@@ -39,6 +41,9 @@ const DAYS_IN_MONTH: [[u8; 12]; 2] = [
 
 // The seconds of 400 years.
 const CYCLE_SECS: u64 = 12622780800;
+
+// The seconds from year 0 to 1970.
+const SECS_TO_1970: i64 = 62167219200;
 
 // Of a century year, 400 divides it exactly where 16 does.
 pub fn is_leap(year: i64) -> bool
@@ -90,21 +95,32 @@ pub fn day_of_year(d: Date) -> u32
     doy_at_month(is_leap(d.year), (d.month - 1) as usize) + (d.day - 1) as u32
 }
 
+// The month, from 0, that a day of the year lies in: with the days that February lacks of 30, months have 2048/67 days.
+fn month_at_doy(leap: bool, doy: u32) -> usize
+    requires { ⌜ doy < yearLength leap ⌝ }
+    ensures { λ r. ⌜ (r ≤ 11) × (sumTo (monthRow leap) r ≤ doy) × (doy < sumTo (monthRow leap) (r + 1)) ⌝ }
+{
+    let lacking = 2 - leap as u32;
+    let even = if doy + lacking < 61 {
+        doy
+    } else {
+        doy + lacking
+    };
+    ((even * 67 + 30) / 2048) as usize
+}
+
 pub struct MonthDay {
     pub month: u8,
     pub day: u8,
 }
 
-// The month and the day of the month of a day of the year, from 0. A month has fewer than 32 days, so the search starts at doy / 32.
+// The month and the day of the month of a day of the year, from 0.
 pub fn month_and_day_of_month(year: i64, doy: u32) -> MonthDay
     requires { ⌜ doy < yearLength (isLeap year) ⌝ }
     ensures { λ r. ⌜ InYear year doy (r .month) (r .day) ⌝ }
 {
     let leap = is_leap(year);
-    let mut index = (doy / 32) as usize;
-    while doy_at_month(leap, index + 1) <= doy {
-        index += 1;
-    }
+    let index = month_at_doy(leap, doy);
     MonthDay {
         month: index as u8 + 1,
         day: (doy - doy_at_month(leap, index)) as u8 + 1,
@@ -113,20 +129,20 @@ pub fn month_and_day_of_month(year: i64, doy: u32) -> MonthDay
 
 // The leap years among the first years of a cycle, or of several.
 fn leap_years(years: u64) -> u64
-    requires { ⌜ years ≤ 2_000_000_000_000 ⌝ }
+    requires { ⌜ years ≤ 2_000_000_000_401 ⌝ }
     ensures { λ r. ⌜ r ≡ (years + 3) / 4 - (years + 99) / 100 + (years + 399) / 400 ⌝ }
 {
     let m100 = (years + 99) / 100;
     (years + 3) / 4 - m100 + (m100 + 3) / 4
 }
 
-// The days from the first day of year 0 to that of the year. Leap years are counted from 2,500,000,000 cycles before year 0, so that no year is below 0.
+// The days from the first day of year 0 to that of the year. Leap years are counted from 2,500,000,001 cycles before year 0, so that no year is below 0.
 pub fn days_from_year_0(year: i64) -> i64
-    requires { ⌜ natAbs year ≤ 1_000_000_000_000 ⌝ }
+    requires { ⌜ natAbs year ≤ 1_000_000_000_001 ⌝ }
     ensures { λ r. ⌜ r ≡ yearStart year ⌝ }
 {
-    let years = (year + 1000000000000) as u64;
-    year * 365 + leap_years(years) as i64 - 242500000000
+    let years = (year + 1000000000400) as u64;
+    year * 365 + leap_years(years) as i64 - 242500000097
 }
 
 // A year of the 400-year cycle, and the day of that year, from 0.
@@ -135,36 +151,24 @@ pub struct YearDay {
     pub day: u32,
 }
 
-// The 100, 4 and 1-year steps. The last always ends the search.
+// A century has a quarter of the cycle's days, and its year a quarter of 1461, but where it starts with a common year.
 pub fn year_in_cycle(day: u32) -> YearDay
     requires { ⌜ day < 146097 ⌝ }
     ensures { λ r. ⌜ InCycle day (r .year) (r .day) ⌝ }
 {
-    if day < 366 {
-        return YearDay { year: 0, day };
-    }
+    let n100 = day * 4 / 146097;
+    let day = day - n100 * 146097 / 4;
+    let n1 = day * 4 / 1461;
     // Every century but the cycle's first starts with a common year.
-    let n100 = (day - 1) / 36524;
-    let day = day - 1 - n100 * 36524;
-    if day < 365 {
+    if n1 == 0 && 0 < n100 {
         return YearDay {
             year: n100 * 100,
-            day,
+            day: day - 1,
         };
     }
-    // Four years start with a leap year, but for the first four of such a century.
-    let n4 = (day + 1) / 1461;
-    let day = day + 1 - n4 * 1461;
-    if day < 366 {
-        return YearDay {
-            year: n100 * 100 + n4 * 4,
-            day,
-        };
-    }
-    let n1 = (day - 1) / 365;
     YearDay {
-        year: n100 * 100 + n4 * 4 + n1,
-        day: day - 1 - n1 * 365,
+        year: n100 * 100 + n1,
+        day: day - (n1 * 1461 + 3) / 4,
     }
 }
 
@@ -194,26 +198,31 @@ fn time_at(second: u32) -> Time
     }
 }
 
-// The moment at seconds plus epoch. The sum need not fit: each addend is split into cycles, and the parts are added.
-pub fn secs_to_date_time(seconds: i64, epoch: i64) -> Moment
-    ensures { λ r. ⌜ r ≡ momentAt (seconds +ℤ epoch) ⌝ }
+// The cycles from year 0 to seconds plus epoch, and the seconds behind them.
+fn from_year_0(seconds: i64, epoch: i64) -> Parts
+    ensures { λ r. ⌜ Floor 12622780800 (seconds +ℤ epoch +ℤ pos 62167219200) (r .quotient) (r .rest) ⌝ }
 {
+    if let Checked::Exact(sum) = checked_add(seconds, epoch) {
+        if let Checked::Exact(sum) = checked_add(sum, SECS_TO_1970) {
+            return floor_split(sum, CYCLE_SECS);
+        }
+    }
+    // The sum need not fit: each addend is split into cycles, and the parts are added.
     let sum = add_parts(
         floor_split(seconds, CYCLE_SECS),
         floor_split(epoch, CYCLE_SECS),
         CYCLE_SECS,
     );
-    // 1970 starts 62,167,219,200 seconds after year 0: four cycles, and the rest.
-    let from_year_0 = add_parts(
-        sum,
-        Parts {
-            quotient: 4,
-            rest: 11676096000,
-        },
-        CYCLE_SECS,
-    );
-    let date = date_in_cycle(from_year_0.quotient, (from_year_0.rest / 86400) as u32);
-    let time = time_at((from_year_0.rest % 86400) as u32);
+    add_parts(sum, floor_split(SECS_TO_1970, CYCLE_SECS), CYCLE_SECS)
+}
+
+// The moment at seconds plus epoch.
+pub fn secs_to_date_time(seconds: i64, epoch: i64) -> Moment
+    ensures { λ r. ⌜ r ≡ momentAt (seconds +ℤ epoch) ⌝ }
+{
+    let parts = from_year_0(seconds, epoch);
+    let date = date_in_cycle(parts.quotient, (parts.rest / 86400) as u32);
+    let time = time_at((parts.rest % 86400) as u32);
     Moment { date, time }
 }
 
@@ -222,7 +231,15 @@ pub fn day_of_date(d: Date) -> i64
     requires { ⌜ (natAbs (d .year) ≤ 1_000_000_000_000) × Valid d ⌝ }
     ensures { λ r. ⌜ r ≡ dayNumber d ⌝ }
 {
-    days_from_year_0(d.year) + day_of_year(d) as i64 - 719528
+    // Years that start with March end with February, so that no day counts on leapness: 306 days stand before their January.
+    let early = d.month < 3;
+    let month = if early {
+        d.month as u32 + 12
+    } else {
+        d.month as u32
+    };
+    let year = if early { d.year } else { d.year + 1 };
+    days_from_year_0(year) + ((month * 979 - 2919) / 32 + d.day as u32) as i64 - 719835
 }
 
 fn second_of_day(t: Time) -> u64
@@ -242,12 +259,28 @@ pub fn secs_from_1970(m: Moment) -> i64
     day_of_date(date) * 86400 + second_of_day(time) as i64
 }
 
+// The count of a moment over an epoch, where the year is so near that an i64 holds the moment's seconds; over an epoch within ±2^62 their difference fits.
+pub fn near_to_secs(m: Moment, epoch: i64) -> Checked
+    requires { ⌜ (natAbs (m .date .year) ≤ 10_000_000_000) × Valid (m .date) × ValidTime (m .time) ⌝ }
+    ensures { λ r. ⌜ r ≡ checked (secondsOf m -ℤ epoch) ⌝ }
+{
+    let secs = secs_from_1970(m);
+    if -4611686018427387904 <= epoch && epoch <= 4611686018427387904 {
+        return Checked::Exact(secs - epoch);
+    }
+    checked_sub(secs, epoch)
+}
+
 // The count of a moment over an epoch, decided on the exact sum: the moment's own seconds need not fit.
 pub fn date_time_to_secs(m: Moment, epoch: i64) -> Checked
     requires { ⌜ (natAbs (m .date .year) ≤ 1_000_000_000_000) × Valid (m .date) × ValidTime (m .time) ⌝ }
     ensures { λ r. ⌜ r ≡ checked (secondsOf m -ℤ epoch) ⌝ }
 {
     let date = m.date;
+    let year = date.year;
+    if -10000000000 <= year && year <= 10000000000 {
+        return near_to_secs(m, epoch);
+    }
     let time = m.time;
     let from_1970 = Parts {
         quotient: day_of_date(date),
