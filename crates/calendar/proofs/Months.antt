@@ -84,7 +84,7 @@ start-rule true k h = eqb→eq _ _ (at (λ i x. eqb (cond (ltb i 2) ((i * 489 + 
 start-rule false k h = eqb→eq _ _ (at (λ i x. eqb (cond (ltb i 2) ((i * 489 + 8) / 16) ((i * 489 + 8) / 16 - 2 + 0)) x) (doyRow false) tt k (omega arith)) ∙ doy-is false k h
 
 -- the code's arithmetic for the month, from 0, that a day of the year lies in
-abbrev pub monthAt : Bool → ℕ → ℕ
+abbrev monthAt : Bool → ℕ → ℕ
 monthAt leap n = (cond (ltb (n + (2 - boolByte leap)) 61) n (n + (2 - boolByte leap)) * 67 + 30) / 2048
 
 abbrev within : Bool → ℕ → Bool

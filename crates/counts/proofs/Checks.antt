@@ -32,12 +32,6 @@ bad n h = le-ltb n 1000000000 (omega arith)
 pub good : (n : ℕ) → n ≤ 999999999 → ltb n 1000000000 ≡ true
 good n h = lt-ltb n 1000000000 (omega arith)
 
-pub no-sum : {x : ℤ} → Outside ≡ Exact x → ⊥
-no-sum e = let z : _≡_ {A = ℕ} 0 1 = cc in absurd (omega arith)
-
-pub exact-one : {x y : ℤ} → Exact x ≡ Exact y → x ≡ y
-exact-one e = cc
-
 module _ {s : Checked} (z : ℤ) (e : s ≡ checked z) where
   pub outside : s ≡ Outside → isI64 z ≡ false
   outside f = outside-tells z (sym f ∙ e)

@@ -1,22 +1,50 @@
--- The calendar field that is refused first; fields that are all good.
-use mathlib.Core.Path.{_≡_}
+-- The calendar field that is refused first; fields that are all good, and the range of their seconds.
+use mathlib.Core.Path.{_≡_, refl, sym, ap, _∙_}
+use mathlib.Core.List.{[], _∷_}
 use Prim.Native.Nat.{ℕ, _<_}
 use lib.Dec.{leb}
-use lib.IntN.{ℤ}
+use lib.IntN.{ℤ, _-ℤ_}
+use denote.Enum.Declared.{tagOf}
+use types.Run.{OneOf, miss}
 use borrow.Author.Tests.{leb-true, ltb-true}
-use Rattle.errors.specs.Refusals.{Outcome, gives}
+use Rattle.integers.specs.Integers.{checked}
+use Rattle.integers.specs.declared.Checked.{Checked}
+use Rattle.integers.specs.declared.Checked.the-variants.{Exact, Outside}
+use Rattle.errors.specs.Refusals.{Outcome, gives, refuses, ofDateTime}
+use Rattle.errors.specs.declared.DateTimeError.{DateTimeError}
+use Rattle.errors.specs.declared.DateTimeError.the-variants.{OutOfRange}
 use Rattle.calendar.specs.Walk.{date, monthLength, Valid}
-use Rattle.calendar.specs.Moments.{ValidTime}
+use Rattle.calendar.specs.Moments.{ValidTime, secondsOf}
 use Rattle.counts.specs.Said.{saidField}
-use Rattle.counts.specs.Counts.{fieldsChecked}
+use Rattle.counts.specs.Counts.{fieldsChecked, dateTimeSecs}
 use Rattle.counts.specs.declared.dates.BadField.{BadField}
-use Rattle.counts.proofs.Checks.{both, passed}
+use Rattle.counts.specs.declared.dates.BadField.the-variants.{None, Month, Day, Hour, Minute, Second, Nanosecond}
+use Rattle.counts.proofs.Checks.{both, passed, outside, inside, value}
+use Rattle.counts.proofs.dates.BadField.{the-type}
 
 -- what is said of the field that was found is said of the fields
 pub at-field : {r f : BadField} {y year : ℤ} (month day hour min sec nano : ℕ) → y ≡ year → r ≡ f
     → ((rest : Outcome ℤ) → saidField r month day hour min sec nano rest ≡ fieldsChecked y month day hour min sec nano rest)
     → (rest : Outcome ℤ) → saidField f month day hour min sec nano rest ≡ fieldsChecked year month day hour min sec nano rest
 at-field month day hour min sec nano p q said rest = rw (← p, ← q) (said rest)
+
+-- what is said of a field that is refused does not depend on the rest
+module _ (month day hour min sec nano : ℕ) (r rest : Outcome ℤ) where
+  any-rest : (f : BadField) → OneOf (1 ∷ 2 ∷ 3 ∷ 4 ∷ 5 ∷ 6 ∷ []) (tagOf the-type f) → saidField f month day hour min sec nano r ≡ saidField f month day hour min sec nano rest
+  any-rest None h = absurd (miss (1 ∷ 2 ∷ 3 ∷ 4 ∷ 5 ∷ 6 ∷ []) 0 tt h)
+  any-rest Month h = refl
+  any-rest Day h = refl
+  any-rest Hour h = refl
+  any-rest Minute h = refl
+  any-rest Second h = refl
+  any-rest Nanosecond h = refl
+
+pub field-refused : (f : BadField) (e : DateTimeError) {y year : ℤ} (month day hour min sec nano : ℕ) → y ≡ year → OneOf (1 ∷ 2 ∷ 3 ∷ 4 ∷ 5 ∷ 6 ∷ []) (tagOf the-type f)
+    → ((rest : Outcome ℤ) → saidField f month day hour min sec nano rest ≡ fieldsChecked y month day hour min sec nano rest)
+    → refuses (ofDateTime e) ≡ saidField f month day hour min sec nano (refuses (ofDateTime OutOfRange))
+    → (rest : Outcome ℤ) → refuses (ofDateTime e) ≡ fieldsChecked year month day hour min sec nano rest
+field-refused f e month day hour min sec nano p h said refusal rest =
+    refusal ∙ any-rest month day hour min sec nano _ rest f h ∙ rw (← p) (said rest)
 
 -- fields of which none is refused
 pub record Good (year : ℤ) (month day hour min sec nano : ℕ) : Type 0 where
@@ -43,3 +71,13 @@ good-fields year month day hour min sec nano e =
       },
       f .1,
     )
+
+-- and then the range of their seconds decides
+module _ (epoch year : ℤ) (month day hour min sec nano : ℕ) (all : (rest : Outcome ℤ) → rest ≡ fieldsChecked year month day hour min sec nano rest) {s : Checked} (e : s ≡ checked (secondsOf (record { date = date year month day; time = record { hour = hour; minute = min; second = sec } }) -ℤ epoch)) where
+  pub secs-given : {x : ℤ} → s ≡ Exact x → gives x ≡ dateTimeSecs epoch year month day hour min sec nano
+  unfolding dateTimeSecs
+  secs-given f = ap gives (value _ e f) ∙ sym (rw (inside _ e f) refl) ∙ all _
+
+  pub secs-refused : s ≡ Outside → refuses (ofDateTime OutOfRange) ≡ dateTimeSecs epoch year month day hour min sec nano
+  unfolding dateTimeSecs
+  secs-refused f = sym (rw (outside _ e f) refl) ∙ all _

@@ -8,12 +8,13 @@ use integers::Checked;
 ghost use mathlib.Core.Path.{_≡_};
 ghost use Prim.Native.Nat.{_≤_};
 ghost use lib.IntN.{ℤ, natAbs};
-ghost use Rattle.errors.specs.Refusals.{Outcome, gives};
+ghost use Rattle.errors.specs.Refusals.{Outcome, refuses, ofDateTime};
+ghost use Rattle.errors.specs.declared.DateTimeError.the-variants.{OutOfRange};
 ghost use Rattle.counts.specs.Said.{saidField, saidSecs};
 ghost use Rattle.counts.specs.Counts.{fieldsChecked, dateTimeSecs};
 
 // The calendar field that is refused first, in 01's order.
-enum BadField {
+pub(crate) enum BadField {
     None,
     Month,
     Day,
@@ -23,7 +24,15 @@ enum BadField {
     Nanosecond,
 }
 
-fn first_bad_field(year: i64, month: u8, day: u8, hour: u8, min: u8, sec: u8, nano: u32) -> BadField
+pub(crate) fn first_bad_field(
+    year: i64,
+    month: u8,
+    day: u8,
+    hour: u8,
+    min: u8,
+    sec: u8,
+    nano: u32,
+) -> BadField
     ensures { λ r. ⌜ ((rest : Outcome ℤ) → saidField r month day hour min sec nano rest ≡ fieldsChecked year month day hour min sec nano rest) ⌝ }
 {
     if month < 1 {
@@ -53,6 +62,29 @@ fn first_bad_field(year: i64, month: u8, day: u8, hour: u8, min: u8, sec: u8, na
     BadField::None
 }
 
+// The refusal of a bad field; where none is bad, that of the range.
+pub(crate) fn date_refusal(
+    bad: BadField,
+    month: u8,
+    day: u8,
+    hour: u8,
+    min: u8,
+    sec: u8,
+    nano: u32,
+) -> DateTimeError
+    ensures { λ r. ⌜ refuses (ofDateTime r) ≡ saidField bad month day hour min sec nano (refuses (ofDateTime OutOfRange)) ⌝ }
+{
+    match bad {
+        BadField::None => DateTimeError::OutOfRange,
+        BadField::Month => DateTimeError::InvalidMonth(month),
+        BadField::Day => DateTimeError::InvalidDayOfMonth(day),
+        BadField::Hour => DateTimeError::InvalidHour(hour),
+        BadField::Minute => DateTimeError::InvalidMinute(min),
+        BadField::Second => DateTimeError::InvalidSecond(sec),
+        BadField::Nanosecond => DateTimeError::InvalidNanosecond(nano),
+    }
+}
+
 // The seconds of calendar fields over an epoch: refusals 0 to 6.
 pub fn date_time_secs(
     epoch: i64,
@@ -67,56 +99,18 @@ pub fn date_time_secs(
     requires { ⌜ natAbs year ≤ 1_000_000_000_000 ⌝ }
     ensures { λ r. ⌜ saidSecs r ≡ dateTimeSecs epoch year month day hour min sec nano ⌝ }
 {
-    match first_bad_field(year, month, day, hour, min, sec, nano) {
-        BadField::Month => SecsAnswer::Refused(DateTimeError::InvalidMonth(month)),
-        BadField::Day => SecsAnswer::Refused(DateTimeError::InvalidDayOfMonth(day)),
-        BadField::Hour => SecsAnswer::Refused(DateTimeError::InvalidHour(hour)),
-        BadField::Minute => SecsAnswer::Refused(DateTimeError::InvalidMinute(min)),
-        BadField::Second => SecsAnswer::Refused(DateTimeError::InvalidSecond(sec)),
-        BadField::Nanosecond => SecsAnswer::Refused(DateTimeError::InvalidNanosecond(nano)),
-        BadField::None => {
-            let date = Date { year, month, day };
-            let time = Time {
-                hour,
-                minute: min,
-                second: sec,
-            };
-            match calendar::date_time_to_secs(Moment { date, time }, epoch) {
-                Checked::Exact(secs) => SecsAnswer::At(secs),
-                Checked::Outside => SecsAnswer::Refused(DateTimeError::OutOfRange),
-            }
-        }
-    }
-}
-
-// The seconds of good calendar fields over an epoch that is not far, or none, which says nothing: the short way of most dates.
-pub(crate) fn near_secs(
-    epoch: i64,
-    year: i64,
-    month: u8,
-    day: u8,
-    hour: u8,
-    min: u8,
-    sec: u8,
-    nano: u32,
-) -> Checked
-    requires { ⌜ natAbs year ≤ 10_000_000_000 ⌝ }
-    ensures { λ r. ⌜ ((secs : ℤ) → r ≡ Checked.Exact secs → dateTimeSecs epoch year month day hour min sec nano ≡ gives secs) ⌝ }
-{
-    let BadField::None = first_bad_field(year, month, day, hour, min, sec, nano) else {
-        return Checked::Outside;
+    let bad = first_bad_field(year, month, day, hour, min, sec, nano);
+    let BadField::None = bad else {
+        return SecsAnswer::Refused(date_refusal(bad, month, day, hour, min, sec, nano));
     };
-    if epoch < -4611686018427387904 {
-        return Checked::Outside;
-    }
-    if 4611686018427387904 < epoch {
-        return Checked::Outside;
-    }
     let date = Date { year, month, day };
     let time = Time {
         hour,
         minute: min,
         second: sec,
     };
-    Checked::Exact(calendar::secs_from_1970(Moment { date, time }) - epoch)
+    match calendar::date_time_to_secs(Moment { date, time }, epoch) {
+        Checked::Exact(secs) => SecsAnswer::At(secs),
+        Checked::Outside => SecsAnswer::Refused(DateTimeError::OutOfRange),
+    }
 }

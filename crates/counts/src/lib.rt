@@ -1,4 +1,8 @@
 // Timestamps, durations, and every entry on their counts. The names are those of lib.rs in the Rust.
+use calendar::Date;
+use calendar::Moment;
+use calendar::Time;
+use dates::BadField;
 use errors::CountError;
 use errors::DateTimeError;
 use integers::Checked;
@@ -131,13 +135,28 @@ impl TaiTime {
     ) -> DateTimeAnswer
         ensures { λ r. ⌜ saidDateTime r ≡ fromDateTime (epoch .0) year month day hour min sec nano ⌝ }
     {
-        let near = dates::near_secs(epoch.0, year as i64, month, day, hour, min, sec, nano);
-        if let Checked::Exact(secs) = near {
-            return DateTimeAnswer::At(TaiTime { secs, nanos: nano });
-        }
-        match dates::date_time_secs(epoch.0, year as i64, month, day, hour, min, sec, nano) {
-            SecsAnswer::At(secs) => DateTimeAnswer::At(TaiTime { secs, nanos: nano }),
-            SecsAnswer::Refused(e) => DateTimeAnswer::Refused(e),
+        let year = year as i64;
+        let bad = dates::first_bad_field(year, month, day, hour, min, sec, nano);
+        let BadField::None = bad else {
+            return DateTimeAnswer::Refused(dates::date_refusal(
+                bad,
+                month,
+                day,
+                hour,
+                min,
+                sec,
+                nano,
+            ));
+        };
+        let date = Date { year, month, day };
+        let time = Time {
+            hour,
+            minute: min,
+            second: sec,
+        };
+        match calendar::near_to_secs(Moment { date, time }, epoch.0) {
+            Checked::Exact(secs) => DateTimeAnswer::At(TaiTime { secs, nanos: nano }),
+            Checked::Outside => DateTimeAnswer::Refused(DateTimeError::OutOfRange),
         }
     }
 

@@ -1,6 +1,5 @@
 -- `calendar::year_in_cycle`: the first year of a common century (`in-common`), and any other (`in-other`).
 use mathlib.Core.Logic.{⊎-elim}
-use Prim.Native.Nat.{_*_, _/_}
 use native.Mathlib.Omega.{arith}
 use borrow.Author.Needs.{needs}
 use borrow.Author.Tests.{ltb-true, ltb-false}
@@ -24,10 +23,10 @@ mul-t9 : tie.Need-mul-t9
 mul-t9 c = search needs
 
 sub-t10 : tie.Need-sub-t10
-sub-t10 c = some (c .before .before .args .day) (c .before .before .pre) (ltb-true _ _ (c .if2 .taken))
+sub-t10 c = some (c .before .before .args .day) (c .before .before .pre) (omega (arith, ltb-true))
 
 returns : tie.Need-returns
-returns c = in-common (c .before .before .args .day) (c .before .before .pre) (c .before .if1 .taken) (ltb-true _ _ (c .if2 .taken))
+returns c = in-common (c .before .before .args .day) (c .before .before .pre) (c .before .if1 .taken) (omega (arith, ltb-true))
 
 mul-t6 : tie.Need-mul-t6
 mul-t6 c = search needs
@@ -45,7 +44,7 @@ sub-t14 : tie.Need-sub-t14
 sub-t14 c = search needs
 
 returns-2 : tie.Need-returns-2
-returns-2 c = in-other (c .before .args .day) (c .before .pre) (λ e. ⊎-elim (λ w. omega (arith, ltb-false 0 (c .before .args .day * 4 / 146097) (w .1 .left))) (λ w. absurd (omega (arith, w .left))) (c .if1 .came))
+returns-2 c = in-other (c .before .args .day) (c .before .pre) (λ e. ⊎-elim (λ w. omega (arith, ltb-false)) (λ w. absurd (omega arith)) (c .if1 .came))
 
 pub year-in-cycle-spec : {M : Type 1} → statement M
 year-in-cycle-spec =
