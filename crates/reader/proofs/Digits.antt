@@ -26,6 +26,9 @@ digit {b} {x} e h =
     let k = both (leb 48 x) (leb x 57) (sym e ∙ not-false b h) in
     record { is = sym e ∙ not-false b h; low = leb-true 48 x (k .0); high = leb-true x 57 (k .1) }
 
+pub is-digit : {x : ℕ} → isDigit x ≡ true → Digit x
+is-digit e = digit (sym e) refl
+
 pub decimal-grows : (n : ℕ) (s : List ℕ) → n ≤ decimalAfter n s
 unfolding decimalAfter
 decimal-grows n [] = le-refl n

@@ -1,9 +1,9 @@
 -- The digits behind the point, of which each weighs a tenth of the one before it.
-use mathlib.Core.Path.{_≡_, refl, sym, ap}
+use mathlib.Core.Path.{_≡_, refl, sym, ap, _∙_}
 use mathlib.Core.List.{List, [], _∷_}
 use mathlib.Core.Bool.{true, false}
 use Prim.Native.Nat.{ℕ, zero, suc, _+_, _-_, _*_, _/_, _^_, _<_, _≤_}
-use native.Mathlib.Nat.{add-zero, add-assoc, mul-le-mul-right, pow-suc}
+use native.Mathlib.Nat.{zero-add, pow-suc}
 use native.Mathlib.Numerals.{add-one}
 use native.Mathlib.Omega.{arith}
 use lib.ListN.{length, take, drop, getD, drop-of-length-le, length-take}
@@ -42,18 +42,32 @@ pub weighed-nanoseconds : (s : List ℕ) → nanoseconds s ≡ weighed 100000000
 unfolding nanoseconds
 weighed-nanoseconds s = sym (weighed-first 9 s)
 
-module _ (n w : ℕ) (s : List ℕ) (i : ℕ) where
-  pub weighed-end : length s ≤ i → n + weighed w (drop i s) ≡ n
-  unfolding weighed
-  weighed-end h = rw (drop-of-length-le s h, add-zero)
+-- nine places, of which the first i made n and each other weighs a tenth of the one before it
+unfoldable pub placed : ℕ → ℕ → List ℕ → ℕ
+placed i n s = n * 10 ^ (9 - i) + weighed (10 ^ (9 - i) / 10) (drop i s)
 
-  pub weighed-more : i < length s → n + weighed w (drop i s) ≡ n + (getD s i 0 - 48) * w + weighed (w / 10) (drop (i + 1) s)
-  unfolding weighed
-  weighed-more h = rw (drop-cons s i 0 h, add-one, add-assoc)
+pub placed-start : (s : List ℕ) → nanoseconds s ≡ placed 0 0 s
+unfolding placed
+placed-start s = weighed-nanoseconds s ∙ sym (zero-add _)
 
--- a digit counts at most nine times its weight
-pub nine : (x w : ℕ) → x ≤ 57 → (x - 48) * w ≤ 9 * w
-nine x w h = mul-le-mul-right w (omega arith)
+pub placed-end : (n : ℕ) (s : List ℕ) → placed 9 n s ≡ n
+unfolding placed decimalAfter
+placed-end n s = rw (weighed-first 0 (drop 9 s)) (omega arith)
+
+module _ (n : ℕ) (s : List ℕ) (i : ℕ) (low : i < 9) where
+  ten : 10 ^ (9 - i) ≡ 10 ^ (9 - (i + 1)) * 10
+  ten = ap (λ k. 10 ^ k) (omega arith) ∙ pow-suc 10 (9 - (i + 1))
+
+  tenth : 10 ^ (9 - i) / 10 ≡ 10 ^ (9 - (i + 1))
+  tenth = rw ten (omega arith)
+
+  pub placed-more : i < length s → placed i n s ≡ placed (i + 1) (n * 10 + (getD s i 0 - 48)) s
+  unfolding placed weighed
+  placed-more h = rw (tenth, ten, drop-cons s i 0 h, add-one) (omega arith)
+
+  pub placed-past : length s ≤ i → placed i n s ≡ placed (i + 1) (n * 10) s
+  unfolding placed weighed
+  placed-past h = rw (tenth, ten, drop-of-length-le s h, drop-of-length-le s {i = i + 1} (omega arith)) (omega arith)
 
 -- ---- what follows the point
 module _ (sec : ℕ) (s : List ℕ) where

@@ -1,4 +1,5 @@
 pub mod Numbers
 pub mod Fields
+pub mod Usual
 pub mod Text
 pub mod Stamp

@@ -8,9 +8,11 @@ use crate::numbers;
 use crate::numbers::Number;
 use errors::ParseDateTimeError;
 ghost use mathlib.Core.Path.{_≡_};
-ghost use Prim.Native.Nat.{_^_, _<_};
+ghost use mathlib.Core.Bool.{true};
+ghost use Prim.Native.Nat.{ℕ, _^_, _≤_, _<_};
 ghost use Rattle.errors.specs.declared.ParseDateTimeError.the-variants.{MissingField};
-ghost use Rattle.reader.specs.Text.{withSign, withoutSign, onField, fromMonth, parsed};
+ghost use Rattle.reader.specs.Usual.{fitsPlace, isUsual};
+ghost use Rattle.reader.specs.Text.{withSign, withoutSign, onField, onSeconds, fromMonth, parsed};
 
 // What a text says: no rule on dates was asked yet.
 pub struct DateTime {
@@ -59,6 +61,23 @@ fn stop(f: Field) -> Parsed
     }
 }
 
+fn with_seconds(year: i64, month: u8, day: u8, hour: u8, min: u8, seconds: Seconds) -> Parsed
+    ensures { λ r. ⌜ r ≡ onSeconds seconds (λ sec nano. Parsed.Fields (record { year = year; month = month; day = day; hour = hour; min = min; sec = sec; nano = nano })) ⌝ }
+{
+    match seconds {
+        Seconds::Got(sec, nano) => Parsed::Fields(DateTime {
+            year,
+            month,
+            day,
+            hour,
+            min,
+            sec,
+            nano,
+        }),
+        Seconds::Refused(e) => Parsed::Refused(e),
+    }
+}
+
 // Each field but the seconds takes three bytes with its delimiter.
 fn parse_from_month(year: i64, text: &[u8]) -> Parsed
     ensures { λ r. ⌜ r ≡ fromMonth year (now (text .entry)) ⌝ }
@@ -82,18 +101,72 @@ fn parse_from_month(year: i64, text: &[u8]) -> Parsed
     let Field::Got(min) = f else {
         return stop(f);
     };
-    match fields::pull_seconds(bytes::skip(text, 3)) {
-        Seconds::Got(sec, nano) => Parsed::Fields(DateTime {
-            year,
-            month,
-            day,
-            hour,
-            min,
-            sec,
-            nano,
-        }),
-        Seconds::Refused(e) => Parsed::Refused(e),
+    with_seconds(
+        year,
+        month,
+        day,
+        hour,
+        min,
+        fields::pull_seconds(bytes::skip(text, 3)),
+    )
+}
+
+fn fits_place(place: usize, byte: u8) -> bool
+    ensures { λ r. ⌜ r ≡ fitsPlace place byte ⌝ }
+{
+    if place == 4 || place == 7 {
+        return fields::is_delimiter(Delimiter::Hyphen, byte);
     }
+    if place == 10 {
+        return fields::is_delimiter(Delimiter::SpaceOrT, byte);
+    }
+    if place == 13 || place == 16 {
+        return fields::is_delimiter(Delimiter::Colon, byte);
+    }
+    numbers::is_digit(byte)
+}
+
+// The compiler unrolls the loop, and each place keeps its own test.
+fn is_usual(text: &[u8]) -> bool
+    ensures { λ r. ⌜ r ≡ isUsual (now (text .entry)) ⌝ }
+{
+    if text.len() < 19 {
+        return false;
+    }
+    let mut i = 0;
+    while i < 19 {
+        if !fits_place(i, text[i]) {
+            return false;
+        }
+        i += 1;
+    }
+    text.len() == 19 || text[19] == b'.'
+}
+
+// The short way of most texts: each field stands in its place, and no delimiter is searched.
+fn parse_usual(text: &[u8]) -> Parsed
+    requires { ⌜ isUsual (now text) ≡ true ⌝ }
+    ensures { λ r. ⌜ ((limit : ℕ) → 9999 ≤ limit → r ≡ parsed limit (now (text .entry))) ⌝ }
+{
+    let hundreds = numbers::pair(text, 0) as i64;
+    let rest = numbers::pair(text, 2) as i64;
+    let year = hundreds * 100 + rest;
+    let month = numbers::pair(text, 5);
+    let day = numbers::pair(text, 8);
+    let hour = numbers::pair(text, 11);
+    let min = numbers::pair(text, 14);
+    let sec = numbers::pair(text, 17);
+    if text.len() == 19 {
+        return with_seconds(year, month, day, hour, min, Seconds::Got(sec, 0));
+    }
+    with_seconds(
+        year,
+        month,
+        day,
+        hour,
+        min,
+        fields::pull_fraction(sec, bytes::skip(text, 20)),
+    )
 }
 
 // The size of the year is at most limit.
@@ -101,6 +174,9 @@ pub fn parse_date_time(text: &[u8], limit: u64) -> Parsed
     requires { ⌜ limit < 2 ^ 63 ⌝ }
     ensures { λ r. ⌜ r ≡ parsed limit (now (text .entry)) ⌝ }
 {
+    if 9999 <= limit && is_usual(text) {
+        return parse_usual(text);
+    }
     let negative = bytes::begins_with(text, b'-');
     let text = skip_sign(text);
     let n = fields::find(text, Delimiter::Hyphen);

@@ -28,7 +28,7 @@ pub enum Seconds {
     Refused(ParseDateTimeError),
 }
 
-fn is_delimiter(delimiter: Delimiter, byte: u8) -> bool
+pub fn is_delimiter(delimiter: Delimiter, byte: u8) -> bool
     ensures { λ r. ⌜ r ≡ isDelimiter delimiter byte ⌝ }
 {
     match delimiter {
@@ -54,8 +54,8 @@ pub fn find(s: &[u8], delimiter: Delimiter) -> usize
     i
 }
 
-// Two bytes write no number above 99.
-pub fn pull_two_digits(s: &[u8], delimiter: Delimiter) -> Field
+// The field of two bytes that are not two digits: no number, but for the inner `+`.
+fn pull_two_bytes(s: &[u8], delimiter: Delimiter) -> Field
     ensures { λ r. ⌜ r ≡ twoDigits delimiter (now (s .entry)) ⌝ }
 {
     let n = find(s, delimiter);
@@ -72,23 +72,50 @@ pub fn pull_two_digits(s: &[u8], delimiter: Delimiter) -> Field
     Field::Last(value)
 }
 
-// Every digit is validated, those of weight 0 too.
-fn pull_fraction(sec: u8, digits: &[u8]) -> Seconds
+// Two digits are no delimiter, so that the byte behind them tells the width, and nothing has to be searched.
+pub fn pull_two_digits(s: &[u8], delimiter: Delimiter) -> Field
+    ensures { λ r. ⌜ r ≡ twoDigits delimiter (now (s .entry)) ⌝ }
+{
+    if s.len() < 2 {
+        return Field::Refused(ParseDateTimeError::InvalidFieldWidth);
+    }
+    if numbers::is_digit(s[0]) && numbers::is_digit(s[1]) {
+        let value = numbers::pair(s, 0);
+        if s.len() == 2 {
+            return Field::Last(value);
+        }
+        if is_delimiter(delimiter, s[2]) {
+            return Field::Got(value);
+        }
+        return Field::Refused(ParseDateTimeError::InvalidFieldWidth);
+    }
+    pull_two_bytes(s, delimiter)
+}
+
+// Nine places, of which those behind the last digit are 0; every digit is validated, those past nine too.
+pub fn pull_fraction(sec: u8, digits: &[u8]) -> Seconds
     ensures { λ r. ⌜ r ≡ fraction sec (now (digits .entry)) ⌝ }
 {
     if digits.len() == 0 {
         return Seconds::Refused(ParseDateTimeError::MissingField);
     }
     let mut nano: u32 = 0;
-    let mut weight: u32 = 100000000;
     let mut i = 0;
+    while i < 9 {
+        nano *= 10;
+        if i < digits.len() {
+            let x = digits[i];
+            if !numbers::is_digit(x) {
+                return Seconds::Refused(ParseDateTimeError::InvalidFieldValue);
+            }
+            nano += (x - b'0') as u32;
+        }
+        i += 1;
+    }
     while i < digits.len() {
-        let x = digits[i];
-        if !numbers::is_digit(x) {
+        if !numbers::is_digit(digits[i]) {
             return Seconds::Refused(ParseDateTimeError::InvalidFieldValue);
         }
-        nano += (x - b'0') as u32 * weight;
-        weight /= 10;
         i += 1;
     }
     Seconds::Got(sec, nano)

@@ -1,6 +1,10 @@
 // The number in a field.
 use crate::bytes;
 ghost use mathlib.Core.Path.{_≡_};
+ghost use mathlib.Core.Bool.{true};
+ghost use Prim.Native.Nat.{_+_, _≤_};
+ghost use lib.ListN.{length, getD};
+ghost use Rattle.reader.specs.Usual.{pairAt};
 ghost use Rattle.reader.specs.Numbers.{isDigit, digitsUpTo, number};
 
 // Bad: no number, or one above the limit.
@@ -13,6 +17,15 @@ pub fn is_digit(byte: u8) -> bool
     ensures { λ r. ⌜ r ≡ isDigit byte ⌝ }
 {
     b'0' <= byte && byte <= b'9'
+}
+
+// Two digits at a place, as a number.
+pub fn pair(s: &[u8], at: usize) -> u8
+    requires { ⌜ at + 2 ≤ length (now s) ⌝ }
+    requires { ⌜ (isDigit (getD (now s) at 0) ≡ true) × (isDigit (getD (now s) (at + 1) 0) ≡ true) ⌝ }
+    ensures { λ r. ⌜ r ≡ pairAt (now (s .entry)) at ⌝ }
+{
+    (s[at] - b'0') * 10 + (s[at + 1] - b'0')
 }
 
 // Too large and ill formed are the same refusal, so that the first digit too many ends it: n never passes the limit.

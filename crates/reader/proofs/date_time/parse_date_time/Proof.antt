@@ -1,4 +1,4 @@
--- `reader::date_time::parse_date_time`: the sign and the year; `parse_from_month` reads the rest.
+-- `reader::date_time::parse_date_time`: the short way; else the sign and the year, and `parse_from_month` reads the rest.
 use mathlib.Core.Path.{_≡_, sym, ap, _∙_}
 use Prim.Native.Nat.{_+_}
 use native.Mathlib.Omega.{arith}
@@ -17,11 +17,20 @@ use Rattle.reader.proofs.Digits.{number-small}
 use Rattle.reader.proofs.date_time.parse_date_time.Statement.{statement}
 use Rattle.reader.proofs.date_time.parse_date_time.Tie as tie
 
-year-wide : (k : tie.After-parse-number) → let a = k .before .before .before .before .before .before .before .before .args in
+year-wide : (k : tie.After-parse-number) → let a = k .before .before .before .before .before .before .before .before .before .args in
     parsed (a .limit) (a .text .now)
     ≡ onNumber (k .parse-number .result) (Refused InvalidFieldValue) λ size. fromMonth (withSign (k .before .before .before .before .before .before .begins-with .result) size) (drop (k .before .before .before .before .find .result + 1) (k .before .before .before .before .before .skip-sign .result .now))
 unfolding parsed fromYear
-year-wide k = rw (← k .before .before .before .before .before .skip-sign .ensures, ← k .before .before .before .before .find .ensures .0, lt-ltb _ _ (k .before .before .before .if1 .left), le-leb 4 _ (k .before .before .if2 .left), ← k .parse-number .ensures, ← k .before .before .before .before .before .before .begins-with .ensures)
+year-wide k = rw (← k .before .before .before .before .before .skip-sign .ensures, ← k .before .before .before .before .find .ensures .0, lt-ltb _ _ (k .before .before .before .if3 .left), le-leb 4 _ (k .before .before .if4 .left), ← k .parse-number .ensures, ← k .before .before .before .before .before .before .begins-with .ensures)
+
+is-usual-requires : tie.Need-is-usual-requires
+is-usual-requires c κs = search needs
+
+parse-usual-requires : tie.Need-parse-usual-requires
+parse-usual-requires c κs = sym (c .before .is-usual .ensures) ∙ c .if2 .taken
+
+returns : tie.Need-returns
+returns c = c .parse-usual .ensures _ (c .before .before .before .if1 .taken)
 
 begins-with-requires : tie.Need-begins-with-requires
 begins-with-requires c κs = search needs
@@ -32,13 +41,13 @@ skip-sign-requires c κs = search needs
 find-requires : tie.Need-find-requires
 find-requires c κs = search needs
 
-returns : tie.Need-returns
-unfolding parsed fromYear
-returns c = rw (← c .before .before .skip-sign .ensures, ← c .before .find .ensures .0, le-ltb _ _ (c .if1 .taken))
-
 returns-2 : tie.Need-returns-2
 unfolding parsed fromYear
-returns-2 c = rw (← c .before .before .before .skip-sign .ensures, ← c .before .before .find .ensures .0, lt-ltb _ _ (c .before .if1 .left), lt-leb 4 _ (c .if2 .taken))
+returns-2 c = rw (← c .before .before .skip-sign .ensures, ← c .before .find .ensures .0, le-ltb _ _ (c .if3 .taken))
+
+returns-3 : tie.Need-returns-3
+unfolding parsed fromYear
+returns-3 c = rw (← c .before .before .before .skip-sign .ensures, ← c .before .before .find .ensures .0, lt-ltb _ _ (c .before .if3 .left), lt-leb 4 _ (c .if4 .taken))
 
 slice-aggregate-parse-number : tie.Need-slice-aggregate-parse-number
 slice-aggregate-parse-number c = sym (length-take-le _ _ (omega arith))
@@ -52,8 +61,8 @@ enum-known-size c = search needs
 enum-told : tie.Need-enum-told
 enum-told c = search needs
 
-returns-3 : tie.Need-returns-3
-returns-3 c = rw (year-wide (search), c .enum-told .given .1)
+returns-4 : tie.Need-returns-4
+returns-4 c = rw (year-wide (search), c .enum-told .given .1)
 
 with-sign-requires : tie.Need-with-sign-requires
 with-sign-requires c κs = let v = number-small _ _ (sym (c .before .before .before .parse-number .ensures) ∙ c .before .size .given .1) in omega arith
@@ -67,8 +76,8 @@ skip-requires c κs = search needs
 parse-from-month-requires : tie.Need-parse-from-month-requires
 parse-from-month-requires c κs = search needs
 
-returns-4 : tie.Need-returns-4
-returns-4 c =
+returns-5 : tie.Need-returns-5
+returns-5 c =
     let y = c .before .before .with-sign in
     rw (year-wide (search), c .before .before .before .before .size .given .1, ← y .ensures, ← c .before .skip .ensures)
     (c .parse-from-month .ensures ∙ ap (λ z. fromMonth z (c .before .skip .result .now)) (toZ-ofZ {w = w64} (known64 (y .result) (y .ok) .self)))
@@ -77,18 +86,21 @@ pub parse-date-time-spec : {M : Type 1} → statement M
 parse-date-time-spec =
     tie.close
     (tie.spec
+    is-usual-requires
+    parse-usual-requires
+    returns
     begins-with-requires
     skip-sign-requires
     find-requires
-    returns
     returns-2
+    returns-3
     slice-aggregate-parse-number
     parse-number-requires
     enum-known-size
     enum-told
-    returns-3
+    returns-4
     with-sign-requires
     add-skip
     skip-requires
     parse-from-month-requires
-    returns-4)
+    returns-5)

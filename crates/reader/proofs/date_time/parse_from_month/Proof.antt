@@ -1,5 +1,5 @@
 -- `reader::date_time::parse_from_month`: each stage reads on behind its field, or stops there.
-use mathlib.Core.Path.{_≡_}
+use mathlib.Core.Path.{_≡_, _∙_}
 use mathlib.Core.List.{List}
 use Prim.Native.Nat.{ℕ}
 use mir.Syntax.{w64}
@@ -28,8 +28,8 @@ hour k = read-on Colon _ (k .before .before .before .before .pull-two-digits3 .e
 minute : (k : tie.After-skip4) (next : Next) → field Colon (k .before .before .before .before .before .skip3 .result .now) next ≡ next (k .before .before .f4 .given .0 .0) (k .skip4 .result .now)
 minute k = read-on Colon _ (k .before .before .before .before .pull-two-digits4 .ensures) (k .before .before .f4 .given .1) (k .skip4 .ensures)
 
-fitting : (s : tie.Start) → toZ w64 (ofZ w64 (s .args .year)) ≡ s .args .year
-fitting s = toZ-ofZ {w = w64} (s .fits .year)
+fitting : (k : tie.After-skip) → let s = k .before .before .before .before .before .before in toZ w64 (ofZ w64 (s .args .year)) ≡ s .args .year
+fitting k = toZ-ofZ {w = w64} (k .before .before .before .before .before .before .fits .year)
 
 pull-two-digits-requires : tie.Need-pull-two-digits-requires
 pull-two-digits-requires c κs = search needs
@@ -98,19 +98,12 @@ skip-requires-4 c κs = search needs
 pull-seconds-requires : tie.Need-pull-seconds-requires
 pull-seconds-requires c κs = search needs
 
-enum-known-sec : tie.Need-enum-known-sec
-enum-known-sec c = search needs
-
-enum-known-e : tie.Need-enum-known-e
-enum-known-e c = search needs
+with-seconds-requires : tie.Need-with-seconds-requires
+with-seconds-requires c κs = search needs
 
 returns-5 : tie.Need-returns-5
 unfolding fromMonth
-returns-5 c = rw (month (search), day (search), hour (search), minute (search), ← c .before .before .before .pull-seconds .ensures, c .before .sec .given .1, fitting (search))
-
-returns-6 : tie.Need-returns-6
-unfolding fromMonth
-returns-6 c = rw (month (search), day (search), hour (search), minute (search), ← c .before .before .before .pull-seconds .ensures, c .before .e .given .1)
+returns-5 c = rw (month (search), day (search), hour (search), minute (search), ← c .before .pull-seconds .ensures) (c .with-seconds .ensures ∙ rw (fitting (search)))
 
 pub parse-from-month-spec : {M : Type 1} → statement M
 parse-from-month-spec =
@@ -137,7 +130,5 @@ parse-from-month-spec =
     returns-4
     skip-requires-4
     pull-seconds-requires
-    enum-known-sec
-    enum-known-e
-    returns-5
-    returns-6)
+    with-seconds-requires
+    returns-5)

@@ -1,67 +1,72 @@
--- `reader::fields::pull_two_digits`: the width, then the value, then the delimiter.
-use mathlib.Core.Path.{_≡_, sym, _∙_}
-use mathlib.Core.Bool.{cond}
+-- `reader::fields::pull_two_digits`: the byte behind two digits decides.
+use mathlib.Core.Path.{sym, _∙_}
 use native.Mathlib.Omega.{arith}
-use lib.Dec.{ltb}
-use lib.ListN.{length}
-use lib.Seq.{length-take-le}
-use borrow.Author.Tests.{eq-eqb, ne-eqb, lt-ltb, le-ltb}
+use lib.ListN.{getD}
 use borrow.Author.Needs.{needs}
-use Rattle.errors.specs.declared.ParseDateTimeError.the-variants.{InvalidFieldValue}
-use Rattle.reader.specs.Numbers.{onNumber}
-use Rattle.reader.specs.Fields.{twoDigits}
-use Rattle.reader.specs.declared.fields.Field.the-variants.{Got, Last, Refused}
-use Rattle.reader.proofs.Digits.{number-small}
+use Rattle.reader.proofs.Digits.{Digit, is-digit}
+use Rattle.reader.proofs.Pairs.{pair-short, pair-last, pair-got, pair-wide}
 use Rattle.reader.proofs.fields.pull_two_digits.Statement.{statement}
 use Rattle.reader.proofs.fields.pull_two_digits.Tie as tie
 
-two-wide : (k : tie.After-parse-number) → let a = k .before .before .before .before .before .args in
-    twoDigits (a .delimiter) (a .s .now) ≡ onNumber (k .parse-number .result) (Refused InvalidFieldValue) (cond (ltb (k .before .before .before .find .result) (length (a .s .now))) Got Last)
-unfolding twoDigits
-two-wide k = rw (← k .before .before .before .find .ensures .0, eq-eqb _ 2 (k .before .before .if1 .left), ← k .parse-number .ensures)
+first : (k : tie.Then3) → Digit (getD (k .before .before .before .before .before .before .before .before .args .s .now) 0 0)
+first k = is-digit (sym (k .before .before .before .before .is-digit .ensures) ∙ k .before .before .before .if2 .taken)
 
-find-requires : tie.Need-find-requires
-find-requires c κs = search needs
+second : (k : tie.Then3) → Digit (getD (k .before .before .before .before .before .before .before .before .args .s .now) 1 0)
+second k = is-digit (sym (k .before .is-digit2 .ensures) ∙ k .if3 .taken)
 
 returns : tie.Need-returns
-unfolding twoDigits
-returns c = rw (← c .before .find .ensures .0, ne-eqb _ 2 (c .if1 .taken))
+returns c = pair-short _ _ (c .if1 .taken)
 
-slice-aggregate-parse-number : tie.Need-slice-aggregate-parse-number
-slice-aggregate-parse-number c = sym (length-take-le _ _ (omega arith))
+shared-slice-read-is-digit : tie.Need-shared-slice-read-is-digit
+shared-slice-read-is-digit c = search needs
 
-parse-number-requires : tie.Need-parse-number-requires
-parse-number-requires c κs = search needs
+is-digit-requires : tie.Need-is-digit-requires
+is-digit-requires c κs = search needs
 
-enum-known-v : tie.Need-enum-known-v
-enum-known-v c = search needs
+shared-slice-read-is-digit-2 : tie.Need-shared-slice-read-is-digit-2
+shared-slice-read-is-digit-2 c = search needs
 
-enum-told : tie.Need-enum-told
-enum-told c = search needs
+is-digit-requires-2 : tie.Need-is-digit-requires-2
+is-digit-requires-2 c κs = search needs
+
+pair-requires : tie.Need-pair-requires
+pair-requires c κs = (omega arith, (first c .is, second c .is))
 
 returns-2 : tie.Need-returns-2
-returns-2 c = rw (two-wide (search), c .enum-told .given .1)
+returns-2 c = rw (c .before .pair .ensures) (pair-last _ _ (c .if4 .taken) (first (search)) (second (search)))
 
-cast-value : tie.Need-cast-value
-cast-value c = let v = number-small 99 _ (sym (c .before .before .before .parse-number .ensures) ∙ c .before .v .given .1) in omega arith
+shared-slice-read-is-delimiter : tie.Need-shared-slice-read-is-delimiter
+shared-slice-read-is-delimiter c = search needs
+
+is-delimiter-requires : tie.Need-is-delimiter-requires
+is-delimiter-requires c κs = search needs
 
 returns-3 : tie.Need-returns-3
-returns-3 c = rw (two-wide (search), c .before .before .v .given .1, lt-ltb _ _ (c .if2 .taken))
+returns-3 c = rw (c .before .before .before .before .pair .ensures) (pair-got _ _ (omega arith) (first (search)) (second (search)) (sym (c .before .is-delimiter .ensures) ∙ c .if5 .taken))
 
 returns-4 : tie.Need-returns-4
-returns-4 c = rw (two-wide (search), c .before .before .v .given .1, le-ltb _ _ (c .if2 .left))
+returns-4 c = pair-wide _ _ (omega arith) (first (search)) (second (search)) (sym (c .before .is-delimiter .ensures) ∙ c .if5 .left)
+
+pull-two-bytes-requires : tie.Need-pull-two-bytes-requires
+pull-two-bytes-requires c κs = search needs
+
+returns-5 : tie.Need-returns-5
+returns-5 c = search needs
 
 pub pull-two-digits-spec : {M : Type 1} → statement M
 pull-two-digits-spec =
     tie.close
     (tie.spec
-    find-requires
     returns
-    slice-aggregate-parse-number
-    parse-number-requires
-    enum-known-v
-    enum-told
+    shared-slice-read-is-digit
+    is-digit-requires
+    shared-slice-read-is-digit-2
+    is-digit-requires-2
+    pair-requires
     returns-2
-    cast-value
+    shared-slice-read-is-delimiter
+    is-delimiter-requires
     returns-3
-    returns-4)
+    returns-4
+    pull-two-bytes-requires
+    returns-5)
