@@ -58,16 +58,6 @@ length-low year month h l = low (isLeap year)
 pub length-some : (year : ℤ) (month : ℕ) → 1 ≤ month → month ≤ 12 → 1 ≤ monthLength year month
 length-some year month h l = omega (arith, length-low year month h l)
 
--- the sums, listed
-unfoldable pub doyRow : Bool → List ℕ
-doyRow false = 0 ∷ 31 ∷ 59 ∷ 90 ∷ 120 ∷ 151 ∷ 181 ∷ 212 ∷ 243 ∷ 273 ∷ 304 ∷ 334 ∷ 365 ∷ []
-doyRow true = 0 ∷ 31 ∷ 60 ∷ 91 ∷ 121 ∷ 152 ∷ 182 ∷ 213 ∷ 244 ∷ 274 ∷ 305 ∷ 335 ∷ 366 ∷ []
-
-pub doy-is : (leap : Bool) (k : ℕ) → k ≤ 12 → getD (doyRow leap) k 0 ≡ sumTo (monthRow leap) k
-unfolding doyRow monthRow sumTo
-doy-is true k h = eqb→eq _ _ (at (λ i x. eqb x (sumTo (monthRow true) i)) (doyRow true) tt k (omega arith))
-doy-is false k h = eqb→eq _ _ (at (λ i x. eqb x (sumTo (monthRow false) i)) (doyRow false) tt k (omega arith))
-
 -- a table of two rows, indexed by a flag
 pub flag : (b : Bool) → boolByte b < 2
 flag true = omega arith
@@ -78,10 +68,13 @@ rows r true k = refl
 rows r false k = refl
 
 -- the code's arithmetic for the sums
-pub start-rule : (leap : Bool) (k : ℕ) → k ≤ 12 → cond (ltb k 2) ((k * 489 + 8) / 16) ((k * 489 + 8) / 16 - 2 + boolByte leap) ≡ sumTo (monthRow leap) k
-unfolding doyRow
-start-rule true k h = eqb→eq _ _ (at (λ i x. eqb (cond (ltb i 2) ((i * 489 + 8) / 16) ((i * 489 + 8) / 16 - 2 + 1)) x) (doyRow true) tt k (omega arith)) ∙ doy-is true k h
-start-rule false k h = eqb→eq _ _ (at (λ i x. eqb (cond (ltb i 2) ((i * 489 + 8) / 16) ((i * 489 + 8) / 16 - 2 + 0)) x) (doyRow false) tt k (omega arith)) ∙ doy-is false k h
+abbrev start : Bool → ℕ → ℕ
+start leap k = cond (ltb k 2) ((k * 489 + 8) / 16) ((k * 489 + 8) / 16 - 2 + boolByte leap)
+
+pub start-rule : (leap : Bool) (k : ℕ) → k ≤ 12 → start leap k ≡ sumTo (monthRow leap) k
+unfolding monthRow sumTo
+start-rule true k h = eqb→eq _ _ (below (λ i. eqb (start true i) (sumTo (monthRow true) i)) 13 tt k (omega arith))
+start-rule false k h = eqb→eq _ _ (below (λ i. eqb (start false i) (sumTo (monthRow false) i)) 13 tt k (omega arith))
 
 -- the code's arithmetic for the month, from 0, that a day of the year lies in
 abbrev monthAt : Bool → ℕ → ℕ
@@ -102,16 +95,19 @@ month-rule leap n h =
     test false l = below (within false) 365 tt n l
 
 -- and for the days before a month in years that start with March, to whose January 306 days go
-abbrev march : Bool → ℕ → ℕ
-march leap m = cond (ltb m 3) (((m + 12) * 979 - 2919) / 32) ((m * 979 - 2919) / 32 + yearLength leap)
+abbrev pub march : Bool → Bool → ℕ → ℕ
+march early leap m = cond early (((m + 12) * 979 - 2919) / 32) ((m * 979 - 2919) / 32 + yearLength leap)
 
-pub march-rule : (leap : Bool) (m : ℕ) → 1 ≤ m → m ≤ 12 → march leap m ≡ sumTo (monthRow leap) (m - 1) + 306
+abbrev right : Bool → ℕ → Bool
+right leap m = eqb (march (ltb m 3) leap m) (sumTo (monthRow leap) (m - 1) + 306)
+
+pub march-rule : (leap : Bool) (m : ℕ) → 1 ≤ m → m ≤ 12 → march (ltb m 3) leap m ≡ sumTo (monthRow leap) (m - 1) + 306
 unfolding monthRow sumTo yearLength
-march-rule leap m h l = subst (λ k. march leap k ≡ sumTo (monthRow leap) (k - 1) + 306) {x = suc (m - 1)} {y = m} (omega arith) (eqb→eq _ _ (test leap))
+march-rule leap m h l = eqb→eq _ _ (subst (λ k. T (right leap k)) {x = suc (m - 1)} {y = m} (omega arith) (test leap))
   where
-    test : (leap : Bool) → T (eqb (march leap (suc (m - 1))) (sumTo (monthRow leap) (suc (m - 1) - 1) + 306))
-    test true = below (λ i. eqb (march true (suc i)) (sumTo (monthRow true) (suc i - 1) + 306)) 12 tt (m - 1) (omega arith)
-    test false = below (λ i. eqb (march false (suc i)) (sumTo (monthRow false) (suc i - 1) + 306)) 12 tt (m - 1) (omega arith)
+    test : (leap : Bool) → T (right leap (suc (m - 1)))
+    test true = below (λ i. right true (suc i)) 12 tt (m - 1) (omega arith)
+    test false = below (λ i. right false (suc i)) 12 tt (m - 1) (omega arith)
 
 -- ---- the day of the year
 pub month-end : (d : Date) → 1 ≤ d .month → sumTo (monthRow (isLeap (d .year))) (d .month) ≡ sumTo (monthRow (isLeap (d .year))) (d .month - 1) + monthLength (d .year) (d .month)

@@ -15,9 +15,9 @@ use Rattle.integers.proofs.Signed.{plus, minus, eqZ, apart, size-law, add-law, 
 use Rattle.integers.proofs.Machine.{Small, small-size, small-add, small-sub, small-fits, small-pos}
 use Rattle.calendar.specs.declared.Date.{Date}
 use Rattle.calendar.specs.Walk.{isLeap, monthRow, Valid}
-use Rattle.calendar.specs.Closed.{yearLength, yearStart, sumTo, dayOfYear, dayNumber}
+use Rattle.calendar.specs.Closed.{yearStart, sumTo, dayOfYear, dayNumber}
 use Rattle.calendar.proofs.Years.{start-step, start-near}
-use Rattle.calendar.proofs.Months.{march-rule}
+use Rattle.calendar.proofs.Months.{march, march-rule}
 use Rattle.calendar.proofs.Walk.{day-law}
 use Rattle.calendar.proofs.day_of_date.Statement.{statement}
 use Rattle.calendar.proofs.day_of_date.Tie as tie
@@ -36,7 +36,7 @@ march-day : (d : Date) → Valid d → let early = ltb (d .month) 3 in yearStart
 unfolding dayOfYear
 march-day d v = go (ltb (d .month) 3) (march-rule (isLeap (d .year)) (d .month) (v .month-from) (v .month-to))
   where
-    go : (t : Bool) → cond t (((d .month + 12) * 979 - 2919) / 32) ((d .month * 979 - 2919) / 32 + yearLength (isLeap (d .year))) ≡ sumTo (monthRow (isLeap (d .year))) (d .month - 1) + 306 → yearStart (yearIn t d) +ℤ pos (daysIn t d) -ℤ pos 719835 ≡ dayNumber d
+    go : (t : Bool) → march t (isLeap (d .year)) (d .month) ≡ sumTo (monthRow (isLeap (d .year))) (d .month - 1) + 306 → yearStart (yearIn t d) +ℤ pos (daysIn t d) -ℤ pos 719835 ≡ dayNumber d
     go true e =
         let y = yearStart (d .year) in
         let n = pos (daysIn true d) in
