@@ -55,6 +55,15 @@ pub(crate) fn put_number(s: &mut [u8], at: usize, width: usize, n: u64)
     requires { ⌜ (at + width ≤ length (now s)) × (n < 10 ^ 18) ⌝ }
     ensures { λ _. ⌜ now (s .exit) ≡ sets (now (s .entry)) at (digits width n) ⌝ }
 {
+    if n < 1000000000 {
+        // The compiler unrolls a width that it knows.
+        if width == 9 {
+            put_digits(s, at, 9, n as u32);
+            return;
+        }
+        put_digits(s, at, width, n as u32);
+        return;
+    }
     let low = (n % 1000000000) as u32;
     if width <= 9 {
         put_digits(s, at, width, low);
@@ -71,5 +80,10 @@ pub(crate) fn put_field(s: &mut [u8], at: usize, separator: u8, n: u8)
     ensures { λ _. ⌜ now (s .exit) ≡ sets (now (s .entry)) at (field separator n) ⌝ }
 {
     s[at] = separator;
-    put_pair(s, at + 1, n as u32 % 100);
+    // Below 100, as every field of a moment is, no remainder is asked.
+    if n < 100 {
+        put_pair(s, at + 1, n as u32);
+        return;
+    }
+    put_digits(s, at + 1, 2, n as u32);
 }

@@ -7,8 +7,8 @@ use Rattle.printer.proofs.Decimal.{digits-length, digits-low, digits-sp
 use Rattle.printer.proofs.digits.put_number.Statement.{statement}
 use Rattle.printer.proofs.digits.put_number.Tie as tie
 
-cast-low : tie.Need-cast-low
-cast-low c = search needs
+cast-put-digits : tie.Need-cast-put-digits
+cast-put-digits c = search needs
 
 put-digits-requires : tie.Need-put-digits-requires
 put-digits-requires c κs = search needs
@@ -17,41 +17,73 @@ same-length : tie.Need-same-length
 same-length c = search needs
 
 returns : tie.Need-returns
-returns c = c .before .before .put-digits .ensures ∙ rw (digits-low (c .before .before .before .before .before .before .args .width) 9 (c .before .before .before .before .before .before .args .n) (c .before .before .before .before .if1 .taken))
+returns c = c .before .before .put-digits .ensures ∙ rw (c .before .before .before .before .if2 .taken)
 
-sub-lead : tie.Need-sub-lead
-sub-lead c = search needs
-
-cast-put-digits : tie.Need-cast-put-digits
-cast-put-digits c = search needs
+cast-put-digits-2 : tie.Need-cast-put-digits-2
+cast-put-digits-2 c = search needs
 
 put-digits-requires-2 : tie.Need-put-digits-requires-2
 put-digits-requires-2 c κs = search needs
-
-add-put-digits : tie.Need-add-put-digits
-add-put-digits c = search needs
-
-put-digits-requires-3 : tie.Need-put-digits-requires-3
-put-digits-requires-3 c κs = search needs
 
 same-length-2 : tie.Need-same-length-2
 same-length-2 c = search needs
 
 returns-2 : tie.Need-returns-2
-returns-2 c = let h = c .before .before .before .before .before .before .before .before .if1 .left in c .before .before .put-digits3 .ensures ∙ rw (c .before .before .before .before .before .before .put-digits2 .ensures, digits-split 9 (c .before .before .before .before .before .before .before .before .before .before .args .width) (c .before .before .before .before .before .before .before .before .before .before .args .n) (omega arith), sets-append, digits-length)
+returns-2 c = search needs
+
+cast-low : tie.Need-cast-low
+cast-low c = search needs
+
+put-digits-requires-3 : tie.Need-put-digits-requires-3
+put-digits-requires-3 c κs = search needs
+
+same-length-3 : tie.Need-same-length-3
+same-length-3 c = search needs
+
+returns-3 : tie.Need-returns-3
+returns-3 c = c .before .before .put-digits3 .ensures ∙ rw (digits-low (c .before .before .before .before .before .before .before .args .width) 9 (c .before .before .before .before .before .before .before .args .n) (c .before .before .before .before .if3 .taken))
+
+sub-lead : tie.Need-sub-lead
+sub-lead c = search needs
+
+cast-put-digits-3 : tie.Need-cast-put-digits-3
+cast-put-digits-3 c = search needs
+
+put-digits-requires-4 : tie.Need-put-digits-requires-4
+put-digits-requires-4 c κs = search needs
+
+add-put-digits : tie.Need-add-put-digits
+add-put-digits c = search needs
+
+put-digits-requires-5 : tie.Need-put-digits-requires-5
+put-digits-requires-5 c κs = search needs
+
+same-length-4 : tie.Need-same-length-4
+same-length-4 c = search needs
+
+returns-4 : tie.Need-returns-4
+returns-4 c = let h = c .before .before .before .before .before .before .before .before .if3 .left in c .before .before .put-digits5 .ensures ∙ rw (c .before .before .before .before .before .before .put-digits4 .ensures, digits-split 9 (c .before .before .before .before .before .before .before .before .before .before .before .args .width) (c .before .before .before .before .before .before .before .before .before .before .before .args .n) (omega arith), sets-append, digits-length)
 
 pub put-number-spec : {M : Type 1} → statement M
 put-number-spec =
     tie.close
     (tie.spec
-    cast-low
+    cast-put-digits
     put-digits-requires
     same-length
     returns
-    sub-lead
-    cast-put-digits
+    cast-put-digits-2
     put-digits-requires-2
-    add-put-digits
-    put-digits-requires-3
     same-length-2
-    returns-2)
+    returns-2
+    cast-low
+    put-digits-requires-3
+    same-length-3
+    returns-3
+    sub-lead
+    cast-put-digits-3
+    put-digits-requires-4
+    add-put-digits
+    put-digits-requires-5
+    same-length-4
+    returns-4)
