@@ -3,17 +3,27 @@ use mathlib.Core.Path.{_≡_, refl, sym, ap, _∙_}
 use mathlib.Core.List.{List, _++_, append-assoc, append-nil}
 use Prim.Native.Nat.{ℕ, zero, suc, _+_, _-_, _*_, _/_, _%_, _^_, _<_, _≤_}
 use native.Mathlib.Nat.{pow-suc, pow-succ', pow-zero, div-one, div-div-eq-div-mul, add-suc, add-zero, mul-assoc, div-add-mod'}
+use native.Mathlib.Numerals.{sub-one}
 use native.Mathlib.Omega.{arith}
 use lib.Pow.{pow-add}
-use lib.ListN.{length, length-append}
+use lib.ListN.{length, set, length-append}
 use lib.Seq.{sets}
 use Rattle.printer.specs.Text.{digits}
-use Rattle.printer.proofs.Stores.{sets-append, sets-sets}
+use Rattle.printer.proofs.Stores.{sets-append, sets-set, sets-sets}
 
 pub digits-length : (w n : ℕ) → length (digits w n) ≡ w
 unfolding digits
 digits-length zero n = refl
 digits-length (suc w) n = length-append (digits w (n / 10)) _ ∙ rw (digits-length w (n / 10)) (omega arith)
+
+-- the last digit may be stored first
+pub last-first : (l : List ℕ) (at w n : ℕ) → 0 < w → sets l at (digits w n) ≡ sets (set l (at + (w - 1)) (48 + n % 10)) at (digits (w - 1) (n / 10))
+unfolding digits
+last-first l at zero n h = absurd (omega arith)
+last-first l at (suc w) n h =
+    let e = digits-length w (n / 10) in
+    rw sub-one
+    (sets-append l at (digits w (n / 10)) _ ∙ rw e (sym (sets-set l at (digits w (n / 10)) (at + w) (48 + n % 10) (omega arith))))
 
 -- what a multiple of 10 ^ w adds is not seen in the last w digits
 above : (w q n : ℕ) → digits w (q * 10 ^ w + n) ≡ digits w n
@@ -46,9 +56,9 @@ digits-split b w n h =
     let e : w ≡ w - b + b = omega arith in
     ap (λ k. digits k n) e ∙ behind (w - b) b n ∙ rw (digits-low b b n (omega arith))
 
--- the last b digits may be stored first
-pub last-first : (b : ℕ) (l : List ℕ) (at w n : ℕ) → b ≤ w → sets l at (digits w n) ≡ sets (sets l (at + (w - b)) (digits b (n % 10 ^ b))) at (digits (w - b) (n / 10 ^ b))
-last-first b l at w n h =
+-- so may the last b digits
+pub last-run-first : (b : ℕ) (l : List ℕ) (at w n : ℕ) → b ≤ w → sets l at (digits w n) ≡ sets (sets l (at + (w - b)) (digits b (n % 10 ^ b))) at (digits (w - b) (n / 10 ^ b))
+last-run-first b l at w n h =
     let d = digits (w - b) (n / 10 ^ b) in
     let e = digits-length (w - b) (n / 10 ^ b) in
     ap (sets l at) (digits-split b w n h)

@@ -14,7 +14,7 @@ sets-append l i [] b = rw add-zero
 sets-append l i (x ∷ a) b = sets-append (set l i x) (suc i) a b ∙ rw (suc-add, add-suc)
 
 -- a store behind a run may come first, and so may a run
-sets-set : (l : List ℕ) (i : ℕ) (a : List ℕ) (j d : ℕ) → i + length a ≤ j → sets (set l j d) i a ≡ set (sets l i a) j d
+pub sets-set : (l : List ℕ) (i : ℕ) (a : List ℕ) (j d : ℕ) → i + length a ≤ j → sets (set l j d) i a ≡ set (sets l i a) j d
 sets-set l i [] j d h = refl
 sets-set l i (x ∷ a) j d h =
     ap (λ k. sets k (suc i) a) (set-comm l j i d x (omega arith)) ∙ sets-set (set l i x) (suc i) a j d (omega arith)

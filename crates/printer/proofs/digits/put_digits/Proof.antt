@@ -6,7 +6,7 @@ use lib.ListN.{length, length-set}
 use lib.Seq.{sets}
 use borrow.Author.Needs.{needs}
 use Rattle.printer.specs.Text.{digits}
-use Rattle.printer.proofs.Decimal.{last-first}
+use Rattle.printer.proofs.Decimal.{last-run-first}
 use Rattle.printer.proofs.digits.put_digits.Statement.{statement}
 use Rattle.printer.proofs.digits.put_digits.Tie as tie
 
@@ -34,7 +34,7 @@ loop-less c = omega arith
 loop-again : tie.Need-loop-again Inv-loop μ-loop
 loop-again c =
     let v = c .before .before .before .before .before .loop .inv in
-    (omega arith, omega arith, c .before .before .put-pair .kept .0 ∙ v .2, v .3 ∙ last-first 2 _ _ (c .before .before .before .before .before .loop .left) _ (omega arith) ∙ rw (c .before .before .put-pair .ensures))
+    (omega arith, omega arith, c .before .before .put-pair .kept .0 ∙ v .2, v .3 ∙ last-run-first 2 _ _ (c .before .before .before .before .before .loop .left) _ (omega arith) ∙ rw (c .before .before .put-pair .ensures))
 
 split-last-digit-requires : tie.Need-split-last-digit-requires Inv-loop μ-loop
 split-last-digit-requires c κs = omega arith
