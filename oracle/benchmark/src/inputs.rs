@@ -1,4 +1,4 @@
-//! The inputs of the benchmark: random stamps between the years 1958 and 2100.
+//! The inputs of the benchmark, the same on every run.
 
 use std::time::Duration;
 
@@ -17,10 +17,36 @@ const END: i64 = 4_133_980_800;
 /// Every day of a common year may be drawn.
 const DAYS_IN_MONTH: [u64; 12] = [31, 28, 31, 30, 31, 30, 31, 31, 30, 31, 30, 31];
 
-pub struct Inputs {
+/// Stamps of one kind, as each side takes them.
+pub struct Stamps {
+    pub kind: &'static str,
     pub stamps: Vec<Timestamp>,
     pub times: Vec<MonotonicTime>,
     pub texts: Vec<String>,
+}
+
+impl Stamps {
+    fn new(kind: &'static str, mut draw: impl FnMut() -> Timestamp) -> Self {
+        let stamps: Vec<Timestamp> = (0..CALLS).map(|_| draw()).collect();
+        let times: Vec<MonotonicTime> = stamps
+            .iter()
+            .map(|stamp| MonotonicTime::new(stamp.secs, stamp.nanos).expect("good nanoseconds"))
+            .collect();
+        Stamps {
+            kind,
+            texts: times.iter().map(|time| time.to_string()).collect(),
+            stamps,
+            times,
+        }
+    }
+}
+
+pub struct Inputs {
+    /// Random stamps between the years 1958 and 2100, as document 02's ask 9 draws them.
+    pub near: Stamps,
+    /// The same years in milliseconds and in whole seconds; and years of any length up to ten
+    /// digits, on both sides of year 0.
+    pub others: [Stamps; 3],
     pub dates: Vec<DateTime>,
     pub durations: Vec<Duration>,
 }
@@ -29,12 +55,23 @@ impl Inputs {
     pub fn new() -> Self {
         let mut random = Random::new(SEED);
         let nanos = |random: &mut Random| random.below(1_000_000_000) as u32;
-        let stamps: Vec<Timestamp> = (0..CALLS)
-            .map(|_| Timestamp {
-                secs: FIRST + random.below((END - FIRST) as u64) as i64,
-                nanos: nanos(&mut random),
-            })
-            .collect();
+        let secs = |random: &mut Random| FIRST + random.below((END - FIRST) as u64) as i64;
+        let near = Stamps::new("nanoseconds", || Timestamp {
+            secs: secs(&mut random),
+            nanos: nanos(&mut random),
+        });
+        let milliseconds = Stamps::new("milliseconds", || Timestamp {
+            secs: secs(&mut random),
+            nanos: random.below(1_000) as u32 * 1_000_000,
+        });
+        let whole_seconds = Stamps::new("whole seconds", || Timestamp {
+            secs: secs(&mut random),
+            nanos: 0,
+        });
+        let any_year = Stamps::new("any year", || Timestamp {
+            secs: random.signed(56),
+            nanos: nanos(&mut random),
+        });
         let dates = (0..CALLS)
             .map(|_| {
                 let month = random.below(12);
@@ -52,14 +89,9 @@ impl Inputs {
         let durations = (0..CALLS)
             .map(|_| Duration::new(random.below(1 << 32), nanos(&mut random)))
             .collect();
-        let times: Vec<MonotonicTime> = stamps
-            .iter()
-            .map(|stamp| MonotonicTime::new(stamp.secs, stamp.nanos).expect("good nanoseconds"))
-            .collect();
         Inputs {
-            texts: times.iter().map(|time| time.to_string()).collect(),
-            stamps,
-            times,
+            near,
+            others: [milliseconds, whole_seconds, any_year],
             dates,
             durations,
         }

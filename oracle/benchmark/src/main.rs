@@ -2,32 +2,17 @@
 //! A result is looked at where it lies, on both sides: a copy of it would be timed as well.
 
 mod inputs;
+mod line;
 mod timing;
 
 use std::fmt::{self, Write};
 use std::hint::black_box;
 
-use inputs::Inputs;
+use inputs::{CALLS, Inputs, Stamps};
+use line::Line;
 use oracle::DateTime;
 use tai_time::{DateTimeError, MonotonicTime};
-use timing::{measure, print_head, print_row};
-
-/// A line that is written from its start again and again, never cleared.
-struct Line {
-    bytes: [u8; 64],
-    len: usize,
-}
-
-impl Write for Line {
-    #[inline]
-    fn write_str(&mut self, text: &str) -> fmt::Result {
-        let end = self.len + text.len();
-        let place = self.bytes.get_mut(self.len..end).ok_or(fmt::Error)?;
-        place.copy_from_slice(text.as_bytes());
-        self.len = end;
-        Ok(())
-    }
-}
+use timing::Report;
 
 /// Takes every text and keeps nothing.
 struct Nowhere;
@@ -42,62 +27,49 @@ impl Write for Nowhere {
 
 fn main() {
     let inputs = Inputs::new();
-    print_head();
-    printing(&inputs);
-    reading(&inputs);
-    dates(&inputs);
-    sums(&inputs);
-    moments(&inputs);
+    let mut report = Report::new("Rust", CALLS);
+    let kinds = || std::iter::once(&inputs.near).chain(&inputs.others);
+    kinds().for_each(|stamps| printing(&mut report, stamps));
+    kinds().for_each(|stamps| reading(&mut report, stamps));
+    dates(&mut report, &inputs);
+    sums(&mut report, &inputs);
+    moments(&mut report, &inputs.near);
+    report.print_rounds();
 }
 
-fn printing(inputs: &Inputs) {
-    let (mut lent, mut line) = (
-        [0; 64],
-        Line {
-            bytes: [0; 64],
-            len: 0,
-        },
-    );
-    let times = measure(
-        || {
-            for stamp in &inputs.stamps {
-                let stamp = black_box(stamp);
-                black_box(port::display(
-                    stamp.secs,
-                    stamp.nanos,
-                    0,
-                    None,
-                    &mut lent,
-                    0,
-                ));
-                black_box(&mut lent);
-            }
-        },
-        || {
-            for time in &inputs.times {
-                line.len = 0;
-                black_box(write!(line, "{}", black_box(time))).expect("the line has room");
-                black_box(&mut line);
-            }
-        },
-    );
-    print_row("printing", times);
+fn printing(report: &mut Report, stamps: &Stamps) {
+    let mut lent = [0; 64];
+    let port = || {
+        for stamp in &stamps.stamps {
+            let stamp = black_box(stamp);
+            let printed = port::display(stamp.secs, stamp.nanos, 0, None, &mut lent, 0);
+            black_box(printed);
+            black_box(&mut lent);
+        }
+    };
+    let mut line = Line::new();
+    let rust = || {
+        for time in &stamps.times {
+            line.restart();
+            black_box(write!(line, "{}", black_box(time))).expect("the line has room");
+            black_box(&mut line);
+        }
+    };
+    report.measure(&format!("printing, {}", stamps.kind), port, rust);
 }
 
-fn reading(inputs: &Inputs) {
-    let times = measure(
-        || {
-            for text in &inputs.texts {
-                black_box(&port::from_str(black_box(text).as_bytes(), 0));
-            }
-        },
-        || {
-            for text in &inputs.texts {
-                black_box(&black_box(text).parse::<MonotonicTime>());
-            }
-        },
-    );
-    print_row("reading", times);
+fn reading(report: &mut Report, stamps: &Stamps) {
+    let port = || {
+        for text in &stamps.texts {
+            black_box(&port::from_str(black_box(text).as_bytes(), 0));
+        }
+    };
+    let rust = || {
+        for text in &stamps.texts {
+            black_box(&black_box(text).parse::<MonotonicTime>());
+        }
+    };
+    report.measure(&format!("reading, {}", stamps.kind), port, rust);
 }
 
 /// The Rust's date as the archive's is: behind a call, not built into the caller.
@@ -106,7 +78,7 @@ fn date_behind_a_call(d: &DateTime) -> Result<MonotonicTime, DateTimeError> {
     MonotonicTime::try_from_date_time(d.year, d.month, d.day, d.hour, d.min, d.sec, d.nano)
 }
 
-fn dates(inputs: &Inputs) {
+fn dates(report: &mut Report, inputs: &Inputs) {
     let port = || {
         for date in &inputs.dates {
             let d = black_box(date);
@@ -115,7 +87,7 @@ fn dates(inputs: &Inputs) {
             ));
         }
     };
-    let times = measure(port, || {
+    report.measure("dates to counts", port, || {
         for date in &inputs.dates {
             let d = black_box(date);
             let made = MonotonicTime::try_from_date_time(
@@ -124,13 +96,11 @@ fn dates(inputs: &Inputs) {
             black_box(&made);
         }
     });
-    print_row("dates to counts", times);
-    let times = measure(port, || {
+    report.measure("  both behind a call", port, || {
         for date in &inputs.dates {
             black_box(&date_behind_a_call(black_box(date)));
         }
     });
-    print_row("  both behind a call", times);
 }
 
 /// The Rust's sum behind a call as well.
@@ -142,41 +112,38 @@ fn add_behind_a_call(
     time.checked_add(duration)
 }
 
-fn sums(inputs: &Inputs) {
+fn sums(report: &mut Report, inputs: &Inputs) {
+    let near = &inputs.near;
     let port = || {
-        for (stamp, duration) in inputs.stamps.iter().zip(&inputs.durations) {
+        for (stamp, duration) in near.stamps.iter().zip(&inputs.durations) {
             let (stamp, duration) = (black_box(stamp), black_box(duration));
             let (secs, nanos) = (duration.as_secs(), duration.subsec_nanos());
             black_box(&port::tai_checked_add(stamp.secs, stamp.nanos, secs, nanos));
         }
     };
-    let times = measure(port, || {
-        for (time, duration) in inputs.times.iter().zip(&inputs.durations) {
+    report.measure("adding", port, || {
+        for (time, duration) in near.times.iter().zip(&inputs.durations) {
             black_box(&black_box(time).checked_add(*black_box(duration)));
         }
     });
-    print_row("adding", times);
-    let times = measure(port, || {
-        for (time, duration) in inputs.times.iter().zip(&inputs.durations) {
+    report.measure("  both behind a call", port, || {
+        for (time, duration) in near.times.iter().zip(&inputs.durations) {
             black_box(&add_behind_a_call(black_box(time), *black_box(duration)));
         }
     });
-    print_row("  both behind a call", times);
 }
 
-fn moments(inputs: &Inputs) {
-    let times = measure(
-        || {
-            for stamp in &inputs.stamps {
-                black_box(&port::tai_secs_to_date_time(black_box(stamp).secs, 0));
-            }
-        },
-        || {
-            for time in &inputs.times {
-                black_box(write!(Nowhere, "{:.0}", black_box(time))).expect("it takes all");
-            }
-        },
-    );
-    print_row("counts to moments *", times);
-    println!("* the Rust offers no moments: its printing at precision 0 into nothing is timed");
+/// The Rust offers no moments: its printing at precision 0 into nothing is timed.
+fn moments(report: &mut Report, near: &Stamps) {
+    let port = || {
+        for stamp in &near.stamps {
+            black_box(&port::tai_secs_to_date_time(black_box(stamp).secs, 0));
+        }
+    };
+    let rust = || {
+        for time in &near.times {
+            black_box(write!(Nowhere, "{:.0}", black_box(time))).expect("it takes all");
+        }
+    };
+    report.measure("counts to moments (printed, Rust)", port, rust);
 }

@@ -1,40 +1,89 @@
-//! The clock: both sides in turn, and the median of nine rounds.
+//! The clock: both sides in turn, nine rounds, and their medians.
 
 use std::time::Duration;
-
-use crate::inputs::CALLS;
 
 const ROUNDS: usize = 9;
 
 /// How often a round goes through all inputs on each side.
 const PASSES: usize = 32;
 
-/// Nanoseconds a call, the port's and the Rust's.
-pub struct Times {
-    port: f64,
-    rust: f64,
+/// Nanoseconds a call in each round, the port's and the other's.
+struct Times {
+    port: Vec<f64>,
+    other: Vec<f64>,
 }
 
-/// Times both sides; the first round only warms up.
-pub fn measure(mut port: impl FnMut(), mut rust: impl FnMut()) -> Times {
-    round(&mut port, &mut rust);
-    let rounds = (0..ROUNDS).map(|_| round(&mut port, &mut rust));
-    let (ports, rusts) = rounds.unzip();
-    Times {
-        port: median(ports),
-        rust: median(rusts),
+/// What was measured: a line for each row at once, and all rounds at the end.
+pub struct Report {
+    calls: usize,
+    rows: Vec<(String, Times)>,
+}
+
+impl Report {
+    /// Names the processor, the build profile and the columns; a side makes `calls` in a pass.
+    pub fn new(other: &str, calls: usize) -> Self {
+        println!("{}", processor().unwrap_or("unknown processor".into()));
+        println!("build profile: {}", profile().unwrap_or("unknown".into()));
+        println!("nanoseconds of processor time a call, median of {ROUNDS} rounds\n");
+        println!("{:34} {:>8} {other:>8} {:>8}", "", "port", "ratio");
+        Report {
+            calls,
+            rows: Vec::new(),
+        }
+    }
+
+    /// Times both sides; the first round only warms up.
+    pub fn measure(&mut self, row: &str, mut port: impl FnMut(), mut other: impl FnMut()) {
+        self.round(&mut port, &mut other);
+        let rounds = (0..ROUNDS).map(|_| self.round(&mut port, &mut other));
+        let (port, other) = rounds.unzip();
+        let times = Times { port, other };
+        let (port, other) = (median(&times.port), median(&times.other));
+        println!("{row:34} {port:>8.1} {other:>8.1} {:>8.2}", port / other);
+        self.rows.push((row.to_owned(), times));
+    }
+
+    /// Nanoseconds a call in one round, whose passes are the port's and the other's in turn.
+    fn round(&self, port: &mut impl FnMut(), other: &mut impl FnMut()) -> (f64, f64) {
+        let (mut port_time, mut other_time) = (Duration::ZERO, Duration::ZERO);
+        for _ in 0..PASSES {
+            port_time += time(port);
+            other_time += time(other);
+        }
+        let a_call = |all: Duration| all.as_nanos() as f64 / (PASSES * self.calls) as f64;
+        (a_call(port_time), a_call(other_time))
+    }
+
+    /// Every figure behind the medians.
+    pub fn print_rounds(&self) {
+        println!("\nthe {ROUNDS} rounds, the port's and below it the other's");
+        for (row, times) in &self.rows {
+            println!("{row:34} {}", figures(&times.port));
+            println!("{:34} {}", "", figures(&times.other));
+        }
     }
 }
 
-/// Nanoseconds a call in one round, whose passes are the port's and the Rust's in turn.
-fn round(port: &mut impl FnMut(), rust: &mut impl FnMut()) -> (f64, f64) {
-    let (mut port_time, mut rust_time) = (Duration::ZERO, Duration::ZERO);
-    for _ in 0..PASSES {
-        port_time += time(port);
-        rust_time += time(rust);
-    }
-    let a_call = |all: Duration| all.as_nanos() as f64 / (PASSES * CALLS) as f64;
-    (a_call(port_time), a_call(rust_time))
+fn figures(times: &[f64]) -> String {
+    times.iter().map(|time| format!("{time:>6.1}")).collect()
+}
+
+fn median(times: &[f64]) -> f64 {
+    let mut times = times.to_vec();
+    times.sort_by(f64::total_cmp);
+    times[times.len() / 2]
+}
+
+fn processor() -> Option<String> {
+    let info = std::fs::read_to_string("/proc/cpuinfo").ok()?;
+    let line = info.lines().find(|line| line.starts_with("model name"))?;
+    Some(line.split_once(": ")?.1.to_owned())
+}
+
+/// Cargo puts a program into a folder that has its profile's name.
+fn profile() -> Option<String> {
+    let program = std::env::current_exe().ok()?;
+    Some(program.parent()?.file_name()?.to_str()?.to_owned())
 }
 
 fn time(side: &mut impl FnMut()) -> Duration {
@@ -63,26 +112,4 @@ fn processor_time() -> Duration {
     let failed = unsafe { clock_gettime(THREAD_CPUTIME, &mut time) };
     assert_eq!(failed, 0, "the thread's clock cannot be read");
     Duration::new(time.secs as u64, time.nanos as u32)
-}
-
-fn median(mut times: Vec<f64>) -> f64 {
-    times.sort_by(f64::total_cmp);
-    times[times.len() / 2]
-}
-
-pub fn print_head() {
-    let info = std::fs::read_to_string("/proc/cpuinfo").unwrap_or_default();
-    let name = info.lines().find(|line| line.starts_with("model name"));
-    let name = name.and_then(|line| line.split_once(": "));
-    println!("{}", name.map_or("unknown processor", |(_, name)| name));
-    println!("nanoseconds of processor time a call, median of {ROUNDS} rounds\n");
-    println!(
-        "{:28} {:>8} {:>8} {:>12}",
-        "", "port", "Rust", "port / Rust"
-    );
-}
-
-pub fn print_row(name: &str, times: Times) {
-    let Times { port, rust } = times;
-    println!("{name:28} {port:>8.1} {rust:>8.1} {:>12.2}", port / rust);
 }

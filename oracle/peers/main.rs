@@ -1,0 +1,168 @@
+//! Times the port's archive against other Rust crates: one process, both optimised, the same moments in turn.
+//! Each crate prints and reads a text of its own form, by the quickest way that it offers.
+
+#[path = "../benchmark/src/line.rs"]
+mod line;
+#[path = "../benchmark/src/timing.rs"]
+mod timing;
+
+use std::fmt::Write;
+use std::hint::black_box;
+use std::io;
+use std::time::{Duration, SystemTime, UNIX_EPOCH};
+
+use chrono::{DateTime, NaiveDateTime};
+use line::Line;
+use oracle::Random;
+use time::OffsetDateTime;
+use time::format_description::well_known::Rfc3339;
+use timing::Report;
+
+const SEED: u64 = 1970;
+const CALLS: usize = 16_384;
+
+/// The seconds from 1970 of 2101-01-01: humantime takes no earlier start.
+const END: u64 = 4_133_980_800;
+
+impl io::Write for Line {
+    #[inline]
+    fn write(&mut self, bytes: &[u8]) -> io::Result<usize> {
+        self.push(bytes).ok_or(io::ErrorKind::WriteZero)?;
+        Ok(bytes.len())
+    }
+
+    fn flush(&mut self) -> io::Result<()> {
+        Ok(())
+    }
+}
+
+/// Moments as each crate holds them, and their texts: with a space, and with `T` and `Z`.
+struct Moments {
+    kind: &'static str,
+    stamps: Vec<(i64, u32)>,
+    humantime: Vec<SystemTime>,
+    time: Vec<OffsetDateTime>,
+    chrono: Vec<NaiveDateTime>,
+    spaced: Vec<String>,
+    rfc3339: Vec<String>,
+}
+
+impl Moments {
+    fn new(kind: &'static str, step: u32) -> Self {
+        let mut random = Random::new(SEED);
+        let mut draw = || {
+            let nanos = random.below(u64::from(1_000_000_000 / step)) as u32 * step;
+            (random.below(END), nanos)
+        };
+        let drawn: Vec<(u64, u32)> = (0..CALLS).map(|_| draw()).collect();
+        let system = |&(secs, nanos): &(u64, u32)| UNIX_EPOCH + Duration::new(secs, nanos);
+        let humantime: Vec<SystemTime> = drawn.iter().map(system).collect();
+        let spaced: Vec<String> = drawn
+            .iter()
+            .map(|&(secs, nanos)| text(secs, nanos))
+            .collect();
+        Moments {
+            kind,
+            stamps: drawn
+                .iter()
+                .map(|&(secs, nanos)| (secs as i64, nanos))
+                .collect(),
+            time: humantime.iter().map(|&moment| moment.into()).collect(),
+            chrono: drawn
+                .iter()
+                .map(|&(secs, nanos)| {
+                    NaiveDateTime::from_timestamp_opt(secs as i64, nanos).expect("a near moment")
+                })
+                .collect(),
+            rfc3339: spaced
+                .iter()
+                .map(|text| text.replace(' ', "T") + "Z")
+                .collect(),
+            humantime,
+            spaced,
+        }
+    }
+}
+
+/// The port's text.
+fn text(secs: u64, nanos: u32) -> String {
+    let mut line = [0; 64];
+    let length = port::display(secs as i64, nanos, 0, None, &mut line, 0).length;
+    String::from_utf8_lossy(&line[..length]).into_owned()
+}
+
+fn main() {
+    let kinds = [
+        Moments::new("nanoseconds", 1),
+        Moments::new("milliseconds", 1_000_000),
+        Moments::new("whole seconds", 1_000_000_000),
+    ];
+    let mut report = Report::new("peer", CALLS);
+    kinds
+        .iter()
+        .for_each(|moments| printing(&mut report, moments));
+    kinds
+        .iter()
+        .for_each(|moments| reading(&mut report, moments));
+    report.print_rounds();
+}
+
+/// Prints each moment into a line of its own that is not cleared.
+fn printed<T>(moments: &[T], mut print: impl FnMut(&mut Line, &T)) {
+    let mut line = Line::new();
+    for moment in moments {
+        line.restart();
+        print(&mut line, black_box(moment));
+        black_box(&mut line);
+    }
+}
+
+fn printing(report: &mut Report, moments: &Moments) {
+    let port = || {
+        let mut lent = [0; 64];
+        for stamp in &moments.stamps {
+            let &(secs, nanos) = black_box(stamp);
+            black_box(port::display(secs, nanos, 0, None, &mut lent, 0));
+            black_box(&mut lent);
+        }
+    };
+    let row = |peer: &str| format!("printing {}, {peer}", moments.kind);
+    report.measure(&row("humantime"), port, || {
+        printed(&moments.humantime, |line, &moment| {
+            write!(line, "{}", humantime::format_rfc3339(moment)).expect("the line has room");
+        });
+    });
+    report.measure(&row("time"), port, || {
+        printed(&moments.time, |line, moment| {
+            black_box(moment.format_into(line, &Rfc3339)).expect("the line has room");
+        });
+    });
+    report.measure(&row("chrono"), port, || {
+        printed(&moments.chrono, |line, moment| {
+            write!(line, "{moment}").expect("the line has room");
+        });
+    });
+}
+
+/// Reads each text.
+fn read<T>(texts: &[String], mut read: impl FnMut(&str) -> T) {
+    for text in texts {
+        black_box(&read(black_box(text)));
+    }
+}
+
+fn reading(report: &mut Report, moments: &Moments) {
+    let port = || read(&moments.spaced, |text| port::from_str(text.as_bytes(), 0));
+    let row = |peer: &str| format!("reading {}, {peer}", moments.kind);
+    report.measure(&row("humantime"), port, || {
+        read(&moments.spaced, humantime::parse_rfc3339_weak);
+    });
+    report.measure(&row("time"), port, || {
+        read(&moments.rfc3339, |text| {
+            OffsetDateTime::parse(text, &Rfc3339)
+        });
+    });
+    report.measure(&row("chrono"), port, || {
+        read(&moments.rfc3339, DateTime::parse_from_rfc3339);
+    });
+}
