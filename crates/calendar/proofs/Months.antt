@@ -1,4 +1,4 @@
--- The months of a year: sums of their lengths, the table of these and the arithmetic of those.
+-- The months of a year: sums of their lengths, and the code's arithmetic for them.
 use mathlib.Core.Path.{_≡_, refl, ap, subst, _∙_}
 use mathlib.Core.Bool.{Bool, true, false, cond, _&&_}
 use mathlib.Core.List.{List, [], _∷_}

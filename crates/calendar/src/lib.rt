@@ -231,7 +231,7 @@ pub fn day_of_date(d: Date) -> i64
     requires { ⌜ (natAbs (d .year) ≤ 1_000_000_000_000) × Valid d ⌝ }
     ensures { λ r. ⌜ r ≡ dayNumber d ⌝ }
 {
-    // Years that start with March end with February, so that no day counts on leapness: 306 days stand before their January.
+    // Years that start with March end with February, so that no day of theirs asks for leapness: months of 979/32 days, 306 days before January, and days from 1.
     let early = d.month < 3;
     let month = if early {
         d.month as u32 + 12

@@ -10,7 +10,7 @@ pub(crate) struct Split {
     pub digit: u8,
 }
 
-// The one place where a digit comes off a number.
+// Where a digit comes off a number.
 pub(crate) fn split_last_digit(n: u32) -> Split
     requires { ⌜ n < 2 ^ 30 ⌝ }
     ensures { λ r. ⌜ (r .rest ≡ n / 10) × (r .digit ≡ n % 10) ⌝ }
@@ -22,7 +22,23 @@ pub(crate) fn split_last_digit(n: u32) -> Split
     }
 }
 
-// Two digits as one number of 16 bits, so that a single store writes them.
+pub(crate) struct SplitPair {
+    pub rest: u32,
+    pub pair: u32,
+}
+
+// Where two digits come off.
+fn split_last_pair(n: u32) -> SplitPair
+    requires { ⌜ n < 2 ^ 30 ⌝ }
+    ensures { λ r. ⌜ (r .rest ≡ n / 100) × (r .pair ≡ n % 100) ⌝ }
+{
+    SplitPair {
+        rest: n / 100,
+        pair: n % 100,
+    }
+}
+
+// Two digits as one number of 16 bits, so that a single store writes them: the first digit in the low byte, and 48, the byte of `0`, in both.
 fn put_pair(s: &mut [u8], at: usize, n: u32)
     requires { ⌜ (at + 2 ≤ length (now s)) × (n < 100) ⌝ }
     ensures { λ _. ⌜ now (s .exit) ≡ sets (now (s .entry)) at (digits 2 n) ⌝ }
@@ -42,8 +58,9 @@ pub(crate) fn put_digits(s: &mut [u8], at: usize, width: usize, n: u32)
     let mut m = n;
     while 1 < left {
         left -= 2;
-        put_pair(s, at + left, m % 100);
-        m /= 100;
+        let split = split_last_pair(m);
+        put_pair(s, at + left, split.pair);
+        m = split.rest;
     }
     if 0 < left {
         s[at] = 48 + split_last_digit(m).digit;

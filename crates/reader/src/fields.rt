@@ -54,7 +54,7 @@ pub fn find(s: &[u8], delimiter: Delimiter) -> usize
     i
 }
 
-// The field of two bytes that are not two digits: no number, but for the inner `+`.
+// The field by search, for what does not begin with two digits: of two bytes it is a number only by the inner `+`.
 fn pull_two_bytes(s: &[u8], delimiter: Delimiter) -> Field
     ensures { λ r. ⌜ r ≡ twoDigits delimiter (now (s .entry)) ⌝ }
 {

@@ -22,6 +22,9 @@ loop-holds c = search needs
 sub-left : tie.Need-sub-left Inv-loop μ-loop
 sub-left c = omega arith
 
+split-last-pair-requires : tie.Need-split-last-pair-requires Inv-loop μ-loop
+split-last-pair-requires c κs = omega arith
+
 add-put-pair : tie.Need-add-put-pair Inv-loop μ-loop
 add-put-pair c = omega arith
 
@@ -33,8 +36,9 @@ loop-less c = omega arith
 
 loop-again : tie.Need-loop-again Inv-loop μ-loop
 loop-again c =
-    let v = c .before .before .before .before .before .loop .inv in
-    (omega arith, omega arith, c .before .before .put-pair .kept .0 ∙ v .2, v .3 ∙ last-run-first 2 _ _ (c .before .before .before .before .before .loop .left) _ (omega arith) ∙ rw (c .before .before .put-pair .ensures))
+    let v = c .before .before .before .before .before .before .loop .inv in
+    let e = c .before .before .before .before .split-last-pair .ensures in
+    (omega arith, omega arith, c .before .before .put-pair .kept .0 ∙ v .2, v .3 ∙ last-run-first 2 _ _ (c .before .before .before .before .before .before .loop .left) _ (omega arith) ∙ rw (c .before .before .put-pair .ensures, e .0, e .1))
 
 split-last-digit-requires : tie.Need-split-last-digit-requires Inv-loop μ-loop
 split-last-digit-requires c κs = omega arith
@@ -70,6 +74,7 @@ put-digits-spec =
     μ-loop
     loop-holds
     sub-left
+    split-last-pair-requires
     add-put-pair
     put-pair-requires
     loop-less
