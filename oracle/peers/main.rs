@@ -1,17 +1,19 @@
 //! Times the port's archive against other Rust crates: one process, both optimised, the same moments in turn.
-//! Each crate prints and reads a text of its own form, by the quickest way that it offers.
+//! Each crate prints and reads a text of its own form, by the quickest way that it offers: humantime
+//! is told the precision, and what it prints is made ready before.
 
 #[path = "../benchmark/src/line.rs"]
 mod line;
 #[path = "../benchmark/src/timing.rs"]
 mod timing;
 
-use std::fmt::Write;
+use std::fmt::{self, Write};
 use std::hint::black_box;
 use std::io;
 use std::time::{Duration, SystemTime, UNIX_EPOCH};
 
 use chrono::{DateTime, NaiveDateTime};
+use humantime::Rfc3339Timestamp;
 use line::Line;
 use oracle::Random;
 use time::OffsetDateTime;
@@ -21,7 +23,7 @@ use timing::Report;
 const SEED: u64 = 1970;
 const CALLS: usize = 16_384;
 
-/// The seconds from 1970 of 2101-01-01: humantime takes no earlier start.
+/// The seconds from 1970, before which humantime takes no moment, of 2101-01-01.
 const END: u64 = 4_133_980_800;
 
 impl io::Write for Line {
@@ -40,7 +42,7 @@ impl io::Write for Line {
 struct Moments {
     kind: &'static str,
     stamps: Vec<(i64, u32)>,
-    humantime: Vec<SystemTime>,
+    humantime: Vec<Rfc3339Timestamp>,
     time: Vec<OffsetDateTime>,
     chrono: Vec<NaiveDateTime>,
     spaced: Vec<String>,
@@ -48,7 +50,7 @@ struct Moments {
 }
 
 impl Moments {
-    fn new(kind: &'static str, step: u32) -> Self {
+    fn new(kind: &'static str, step: u32, format: fn(SystemTime) -> Rfc3339Timestamp) -> Self {
         let mut random = Random::new(SEED);
         let mut draw = || {
             let nanos = random.below(u64::from(1_000_000_000 / step)) as u32 * step;
@@ -56,7 +58,7 @@ impl Moments {
         };
         let drawn: Vec<(u64, u32)> = (0..CALLS).map(|_| draw()).collect();
         let system = |&(secs, nanos): &(u64, u32)| UNIX_EPOCH + Duration::new(secs, nanos);
-        let humantime: Vec<SystemTime> = drawn.iter().map(system).collect();
+        let system: Vec<SystemTime> = drawn.iter().map(system).collect();
         let spaced: Vec<String> = drawn
             .iter()
             .map(|&(secs, nanos)| text(secs, nanos))
@@ -67,7 +69,8 @@ impl Moments {
                 .iter()
                 .map(|&(secs, nanos)| (secs as i64, nanos))
                 .collect(),
-            time: humantime.iter().map(|&moment| moment.into()).collect(),
+            humantime: system.iter().map(|&moment| format(moment)).collect(),
+            time: system.iter().map(|&moment| moment.into()).collect(),
             chrono: drawn
                 .iter()
                 .map(|&(secs, nanos)| {
@@ -78,7 +81,6 @@ impl Moments {
                 .iter()
                 .map(|text| text.replace(' ', "T") + "Z")
                 .collect(),
-            humantime,
             spaced,
         }
     }
@@ -93,17 +95,21 @@ fn text(secs: u64, nanos: u32) -> String {
 
 fn main() {
     let kinds = [
-        Moments::new("nanoseconds", 1),
-        Moments::new("milliseconds", 1_000_000),
-        Moments::new("whole seconds", 1_000_000_000),
+        Moments::new("nanoseconds", 1, humantime::format_rfc3339_nanos),
+        Moments::new("milliseconds", 1_000_000, humantime::format_rfc3339_millis),
+        Moments::new(
+            "whole seconds",
+            1_000_000_000,
+            humantime::format_rfc3339_seconds,
+        ),
     ];
     let mut report = Report::new("peer", CALLS);
-    kinds
-        .iter()
-        .for_each(|moments| printing(&mut report, moments));
-    kinds
-        .iter()
-        .for_each(|moments| reading(&mut report, moments));
+    for moments in &kinds {
+        printing(&mut report, moments);
+    }
+    for moments in &kinds {
+        reading(&mut report, moments);
+    }
     report.print_rounds();
 }
 
@@ -128,8 +134,8 @@ fn printing(report: &mut Report, moments: &Moments) {
     };
     let row = |peer: &str| format!("printing {}, {peer}", moments.kind);
     report.measure(&row("humantime"), port, || {
-        printed(&moments.humantime, |line, &moment| {
-            write!(line, "{}", humantime::format_rfc3339(moment)).expect("the line has room");
+        printed(&moments.humantime, |line, moment| {
+            write!(line, "{moment}").expect("the line has room");
         });
     });
     report.measure(&row("time"), port, || {
@@ -144,15 +150,32 @@ fn printing(report: &mut Report, moments: &Moments) {
     });
 }
 
-/// Reads each text.
-fn read<T>(texts: &[String], mut read: impl FnMut(&str) -> T) {
+/// Reads each text, which is a moment of each crate.
+fn read<T, E: fmt::Debug>(texts: &[String], parse: impl Fn(&str) -> Result<T, E>) {
     for text in texts {
-        black_box(&read(black_box(text)));
+        black_box(&parse(black_box(text)));
     }
 }
 
 fn reading(report: &mut Report, moments: &Moments) {
-    let port = || read(&moments.spaced, |text| port::from_str(text.as_bytes(), 0));
+    let accepted = |read: port::TimeResult| {
+        if read.refusal == -1 {
+            Ok(read)
+        } else {
+            Err(read)
+        }
+    };
+    let port = || {
+        for text in &moments.spaced {
+            black_box(&port::from_str(black_box(text).as_bytes(), 0));
+        }
+    };
+    for (text, own) in moments.spaced.iter().zip(&moments.rfc3339) {
+        accepted(port::from_str(text.as_bytes(), 0)).expect("a moment");
+        humantime::parse_rfc3339_weak(text).expect("a moment");
+        OffsetDateTime::parse(own, &Rfc3339).expect("a moment");
+        DateTime::parse_from_rfc3339(own).expect("a moment");
+    }
     let row = |peer: &str| format!("reading {}, {peer}", moments.kind);
     report.measure(&row("humantime"), port, || {
         read(&moments.spaced, humantime::parse_rfc3339_weak);

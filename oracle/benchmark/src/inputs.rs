@@ -14,6 +14,9 @@ pub const CALLS: usize = 16_384;
 const FIRST: i64 = -378_691_200;
 const END: i64 = 4_133_980_800;
 
+/// The seconds from 1970 of 0000-01-01 and of 10000-01-01: between them a year has four digits and no sign.
+const FOUR_DIGITS: std::ops::Range<i64> = -62_167_219_200..253_402_300_800;
+
 /// Every day of a common year may be drawn.
 const DAYS_IN_MONTH: [u64; 12] = [31, 28, 31, 30, 31, 30, 31, 31, 30, 31, 30, 31];
 
@@ -44,8 +47,8 @@ impl Stamps {
 pub struct Inputs {
     /// Random stamps between the years 1958 and 2100, as document 02's ask 9 draws them.
     pub near: Stamps,
-    /// The same years in milliseconds and in whole seconds; and years of any length up to ten
-    /// digits, on both sides of year 0.
+    /// The same years in milliseconds and in whole seconds; and years below 0 or of five to ten
+    /// digits, whose texts have not the usual shape.
     pub others: [Stamps; 3],
     pub dates: Vec<DateTime>,
     pub durations: Vec<Duration>,
@@ -68,9 +71,17 @@ impl Inputs {
             secs: secs(&mut random),
             nanos: 0,
         });
-        let any_year = Stamps::new("any year", || Timestamp {
-            secs: random.signed(56),
-            nanos: nanos(&mut random),
+        let far_years = Stamps::new("far years", || {
+            let secs = loop {
+                let secs = random.signed(56);
+                if !FOUR_DIGITS.contains(&secs) {
+                    break secs;
+                }
+            };
+            Timestamp {
+                secs,
+                nanos: nanos(&mut random),
+            }
         });
         let dates = (0..CALLS)
             .map(|_| {
@@ -91,7 +102,7 @@ impl Inputs {
             .collect();
         Inputs {
             near,
-            others: [milliseconds, whole_seconds, any_year],
+            others: [milliseconds, whole_seconds, far_years],
             dates,
             durations,
         }

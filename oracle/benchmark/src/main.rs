@@ -29,12 +29,28 @@ fn main() {
     let inputs = Inputs::new();
     let mut report = Report::new("Rust", CALLS);
     let kinds = || std::iter::once(&inputs.near).chain(&inputs.others);
-    kinds().for_each(|stamps| printing(&mut report, stamps));
-    kinds().for_each(|stamps| reading(&mut report, stamps));
+    for stamps in kinds() {
+        both_agree(stamps);
+        printing(&mut report, stamps);
+    }
+    for stamps in kinds() {
+        reading(&mut report, stamps);
+    }
     dates(&mut report, &inputs);
     sums(&mut report, &inputs);
     moments(&mut report, &inputs.near);
     report.print_rounds();
+}
+
+/// What is timed is the same text, accepted, on both sides.
+fn both_agree(stamps: &Stamps) {
+    let mut line = [0; 64];
+    for (stamp, text) in stamps.stamps.iter().zip(&stamps.texts) {
+        let length = port::display(stamp.secs, stamp.nanos, 0, None, &mut line, 0).length;
+        assert_eq!(&line[..length], text.as_bytes());
+        let read = port::from_str(text.as_bytes(), 0);
+        assert_eq!((read.secs, read.nanos), (stamp.secs, stamp.nanos));
+    }
 }
 
 fn printing(report: &mut Report, stamps: &Stamps) {
