@@ -73,9 +73,13 @@ pub(crate) fn put_number(s: &mut [u8], at: usize, width: usize, n: u64)
     ensures { λ _. ⌜ now (s .exit) ≡ sets (now (s .entry)) at (digits width n) ⌝ }
 {
     if n < 1000000000 {
-        // The compiler unrolls a width that it knows.
+        // The compiler unrolls a width that it knows: those of most fractions and years.
         if width == 9 {
             put_digits(s, at, 9, n as u32);
+            return;
+        }
+        if width == 4 {
+            put_digits(s, at, 4, n as u32);
             return;
         }
         put_digits(s, at, width, n as u32);

@@ -29,10 +29,10 @@ same-length-2 : tie.Need-same-length-2
 same-length-2 c = search needs
 
 returns-2 : tie.Need-returns-2
-returns-2 c = search needs
+returns-2 c = c .before .before .put-digits2 .ensures ∙ rw (c .before .before .before .before .if3 .taken)
 
-cast-low : tie.Need-cast-low
-cast-low c = search needs
+cast-put-digits-3 : tie.Need-cast-put-digits-3
+cast-put-digits-3 c = search needs
 
 put-digits-requires-3 : tie.Need-put-digits-requires-3
 put-digits-requires-3 c κs = search needs
@@ -41,28 +41,40 @@ same-length-3 : tie.Need-same-length-3
 same-length-3 c = search needs
 
 returns-3 : tie.Need-returns-3
-returns-3 c = c .before .before .put-digits3 .ensures ∙ rw (digits-low (c .before .before .before .before .before .before .before .args .width) 9 (c .before .before .before .before .before .before .before .args .n) (c .before .before .before .before .if3 .taken))
+returns-3 c = search needs
 
-sub-lead : tie.Need-sub-lead
-sub-lead c = search needs
-
-cast-put-digits-3 : tie.Need-cast-put-digits-3
-cast-put-digits-3 c = search needs
+cast-low : tie.Need-cast-low
+cast-low c = search needs
 
 put-digits-requires-4 : tie.Need-put-digits-requires-4
 put-digits-requires-4 c κs = search needs
-
-add-put-digits : tie.Need-add-put-digits
-add-put-digits c = search needs
-
-put-digits-requires-5 : tie.Need-put-digits-requires-5
-put-digits-requires-5 c κs = search needs
 
 same-length-4 : tie.Need-same-length-4
 same-length-4 c = search needs
 
 returns-4 : tie.Need-returns-4
-returns-4 c = let h = c .before .before .before .before .before .before .before .before .if3 .left in c .before .before .put-digits5 .ensures ∙ rw (c .before .before .before .before .before .before .put-digits4 .ensures, digits-split 9 (c .before .before .before .before .before .before .before .before .before .before .before .args .width) (c .before .before .before .before .before .before .before .before .before .before .before .args .n) (omega arith), sets-append, digits-length)
+returns-4 c = c .before .before .put-digits4 .ensures ∙ rw (digits-low (c .before .before .before .before .before .before .before .args .width) 9 (c .before .before .before .before .before .before .before .args .n) (c .before .before .before .before .if4 .taken))
+
+sub-lead : tie.Need-sub-lead
+sub-lead c = search needs
+
+cast-put-digits-4 : tie.Need-cast-put-digits-4
+cast-put-digits-4 c = search needs
+
+put-digits-requires-5 : tie.Need-put-digits-requires-5
+put-digits-requires-5 c κs = search needs
+
+add-put-digits : tie.Need-add-put-digits
+add-put-digits c = search needs
+
+put-digits-requires-6 : tie.Need-put-digits-requires-6
+put-digits-requires-6 c κs = search needs
+
+same-length-5 : tie.Need-same-length-5
+same-length-5 c = search needs
+
+returns-5 : tie.Need-returns-5
+returns-5 c = let h = c .before .before .before .before .before .before .before .before .if4 .left in c .before .before .put-digits6 .ensures ∙ rw (c .before .before .before .before .before .before .put-digits5 .ensures, digits-split 9 (c .before .before .before .before .before .before .before .before .before .before .before .args .width) (c .before .before .before .before .before .before .before .before .before .before .before .args .n) (omega arith), sets-append, digits-length)
 
 pub put-number-spec : {M : Type 1} → statement M
 put-number-spec =
@@ -76,14 +88,18 @@ put-number-spec =
     put-digits-requires-2
     same-length-2
     returns-2
-    cast-low
+    cast-put-digits-3
     put-digits-requires-3
     same-length-3
     returns-3
-    sub-lead
-    cast-put-digits-3
+    cast-low
     put-digits-requires-4
-    add-put-digits
-    put-digits-requires-5
     same-length-4
-    returns-4)
+    returns-4
+    sub-lead
+    cast-put-digits-4
+    put-digits-requires-5
+    add-put-digits
+    put-digits-requires-6
+    same-length-5
+    returns-5)
