@@ -1,20 +1,22 @@
 -- A text of the usual shape: its year and its fields, read at their places.
 use mathlib.Core.Path.{_≡_, refl, sym, ap, _∙_}
-use mathlib.Core.Bool.{true, _&&_, _||_}
+use mathlib.Core.Bool.{true, cond, _&&_, _||_}
 use mathlib.Core.List.{List, [], _∷_}
 use Prim.Native.Nat.{ℕ, zero, suc, _+_, _-_, _*_, _<_, _≤_}
 use native.Mathlib.Nat.{add-zero, zero-add}
 use native.Mathlib.Numerals.{add-one}
 use native.Mathlib.Omega.{arith}
-use lib.Dec.{eqb}
+use native.Mathlib.Decide.{decLt}
+use lib.Dec.{eqb, eqb→eq}
 use lib.IntN.{pos}
-use lib.ListN.{length, drop, getD, length-drop}
+use lib.ListN.{length, drop, getD, length-drop, List·getD-eq-default}
 use lib.Seq.{drop-cons, drop-drop, getD-drop}
 use borrow.Author.Tests.{ne-eqb, le-leb, lt-ltb}
+use Rattle.calendar.proofs.Table.{below}
 use Rattle.counts.proofs.Checks.{both}
 use Rattle.reader.specs.Numbers.{beginsWith, isDigit, allDigits, decimalAfter, digitsUpTo, number}
 use Rattle.reader.specs.Fields.{isDelimiter, width, twoDigits, fraction, seconds}
-use Rattle.reader.specs.Usual.{fitsPlace, fitsFrom, isUsual, pairAt}
+use Rattle.reader.specs.Usual.{usualShape, fitsByte, fits, isUsual, pairAt}
 use Rattle.reader.specs.Text.{field, onSeconds, fromMonth, fromYear, withoutSign, parsed}
 use Rattle.reader.specs.declared.fields.Delimiter.{Delimiter}
 use Rattle.reader.specs.declared.fields.Delimiter.the-variants.{Hyphen, SpaceOrT, Colon, Point}
@@ -27,26 +29,40 @@ use Rattle.reader.proofs.Pairs.{other, pair-last, pair-got}
 use Rattle.reader.proofs.Stages.{behind-two, read-on}
 
 -- ---- what fits its place
-pub fits-step : (s : List ℕ) (i : ℕ) → i < length s → i < 19 → fitsFrom (19 - i) i (drop i s) ≡ (fitsPlace i (getD s i 0) && fitsFrom (19 - (i + 1)) (i + 1) (drop (i + 1) s))
-unfolding fitsFrom
-fits-step s i h l =
-    let n : 19 - i ≡ suc (19 - (i + 1)) = omega arith in
-    rw (n, drop-cons s i 0 h, add-one)
+-- the code's tests for the bytes of the shape
+abbrev byPlace : ℕ → ℕ
+byPlace p = cond (eqb p 4 || eqb p 7) 45 (cond (eqb p 10) 32 (cond (eqb p 13 || eqb p 16) 58 48))
 
-pub fits-long : (n place : ℕ) (s : List ℕ) → fitsFrom n place s ≡ true → n ≤ length s
-unfolding fitsFrom
-fits-long zero place s e = omega arith
-fits-long (suc n) place [] e = let z : _≡_ {A = ℕ} 0 1 = cc in absurd (omega arith)
-fits-long (suc n) place (x ∷ s) e = omega (arith, fits-long n (suc place) s (both (fitsPlace place x) (fitsFrom n (suc place) s) e .1))
+pub shape-at : (p : ℕ) → getD usualShape p 48 ≡ byPlace p
+unfolding usualShape
+shape-at p = go (decLt p 19)
+  where
+    go : Dec (p < 19) → getD usualShape p 48 ≡ byPlace p
+    go (yes l) = eqb→eq _ _ (below (λ i. eqb (getD usualShape i 48) (byPlace i)) 19 tt p l)
+    go (no l) =
+        rw (ne-eqb p 4 (λ e. omega arith), ne-eqb p 7 (λ e. omega arith), ne-eqb p 10 (λ e. omega arith), ne-eqb p 13 (λ e. omega arith), ne-eqb p 16 (λ e. omega arith))
+        (List·getD-eq-default usualShape 48 {n = p} (omega arith))
 
-fits-at : (n place : ℕ) (s : List ℕ) (k : ℕ) → fitsFrom n place s ≡ true → k < n → fitsPlace (place + k) (getD s k 0) ≡ true
-unfolding fitsFrom
-fits-at zero place s k e h = absurd (omega arith)
-fits-at (suc n) place [] k e h = let z : _≡_ {A = ℕ} 0 1 = cc in absurd (omega arith)
-fits-at (suc n) place (x ∷ s) zero e h = rw add-zero (both (fitsPlace place x) (fitsFrom n (suc place) s) e .0)
-fits-at (suc n) place (x ∷ s) (suc k) e h =
-    let q : place + suc k ≡ suc place + k = omega arith in
-    rw q (fits-at n (suc place) s k (both (fitsPlace place x) (fitsFrom n (suc place) s) e .1) (omega arith))
+shape-length : (i : ℕ) → i < 19 → i < length usualShape
+unfolding usualShape
+shape-length i l = omega arith
+
+pub fits-step : (s : List ℕ) (i : ℕ) → i < length s → i < 19 → fits (drop i usualShape) (drop i s) ≡ (fitsByte (getD usualShape i 48) (getD s i 0) && fits (drop (i + 1) usualShape) (drop (i + 1) s))
+unfolding fits
+fits-step s i h l = rw (drop-cons usualShape i 48 (shape-length i l), drop-cons s i 0 h, add-one)
+
+pub fits-long : (shape s : List ℕ) → fits shape s ≡ true → length shape ≤ length s
+unfolding fits
+fits-long [] s e = omega arith
+fits-long (b ∷ shape) [] e = let z : _≡_ {A = ℕ} 0 1 = cc in absurd (omega arith)
+fits-long (b ∷ shape) (x ∷ s) e = omega (arith, fits-long shape s (both (fitsByte b x) (fits shape s) e .1))
+
+fits-at : (shape s : List ℕ) (k : ℕ) → fits shape s ≡ true → k < length shape → fitsByte (getD shape k 48) (getD s k 0) ≡ true
+unfolding fits
+fits-at [] s k e h = absurd (omega arith)
+fits-at (b ∷ shape) [] k e h = let z : _≡_ {A = ℕ} 0 1 = cc in absurd (omega arith)
+fits-at (b ∷ shape) (x ∷ s) zero e h = both (fitsByte b x) (fits shape s) e .0
+fits-at (b ∷ shape) (x ∷ s) (suc k) e h = fits-at shape s k (both (fitsByte b x) (fits shape s) e .1) (omega arith)
 
 -- ---- the year
 year : (limit a b c d e : ℕ) (s : List ℕ) → Digit a → Digit b → Digit c → Digit d → isDelimiter Hyphen e ≡ true → 9999 ≤ limit
@@ -83,21 +99,23 @@ module _ (s : List ℕ) (i : ℕ) where
     on-from d h e = read-on d (drop i s) (sym (got-at d h e)) refl (sym (drop-drop 3 i s))
 
 module _ (s : List ℕ) (u : isUsual s ≡ true) where
-  shape : (fitsFrom 19 0 s ≡ true) × ((eqb (length s) 19 || isDelimiter Point (getD s 19 0)) ≡ true)
+  shape : (fits usualShape s ≡ true) × ((eqb (length s) 19 || isDelimiter Point (getD s 19 0)) ≡ true)
   unfolding isUsual
-  shape = both (fitsFrom 19 0 s) (eqb (length s) 19 || isDelimiter Point (getD s 19 0)) u
+  shape = both (fits usualShape s) (eqb (length s) 19 || isDelimiter Point (getD s 19 0)) u
 
   usual-long : 19 ≤ length s
-  usual-long = fits-long 19 0 s (shape .0)
+  unfolding usualShape
+  usual-long = fits-long usualShape s (shape .0)
 
-  usual-at : (k : ℕ) → k < 19 → fitsPlace k (getD s k 0) ≡ true
-  usual-at k h = rw zero-add at (fits-at 19 0 s k (shape .0) h)
+  usual-at : (k : ℕ) → k < 19 → fitsByte (getD usualShape k 48) (getD s k 0) ≡ true
+  unfolding usualShape
+  usual-at k h = fits-at usualShape s k (shape .0) h
 
-  pub two-at : (i : ℕ) → i + 1 < 19 → (i + 2 ≤ length s) × ((fitsPlace i (getD s i 0) ≡ true) × (fitsPlace (i + 1) (getD s (i + 1) 0) ≡ true))
+  pub two-at : (i : ℕ) → i + 1 < 19 → (i + 2 ≤ length s) × ((fitsByte (getD usualShape i 48) (getD s i 0) ≡ true) × (fitsByte (getD usualShape (i + 1) 48) (getD s (i + 1) 0) ≡ true))
   two-at i h = (omega (arith, usual-long), (usual-at i (omega arith), usual-at (i + 1) h))
 
   usual-year : (limit : ℕ) → 9999 ≤ limit → parsed limit s ≡ fromMonth (pos (pairAt s 0 * 100 + pairAt s 2)) (drop 5 s)
-  unfolding fitsPlace pairAt
+  unfolding usualShape fitsByte isDelimiter pairAt
   usual-year limit l =
       let h = usual-long in
       let front : s ≡ getD s 0 0 ∷ getD s 1 0 ∷ getD s 2 0 ∷ getD s 3 0 ∷ getD s 4 0 ∷ drop 5 s =
@@ -106,7 +124,7 @@ module _ (s : List ℕ) (u : isUsual s ≡ true) where
 
   pub usual-parsed : (limit : ℕ) → 9999 ≤ limit
       → parsed limit s ≡ onSeconds (seconds (drop 17 s)) (λ sec nano. Fields (record { year = pos (pairAt s 0 * 100 + pairAt s 2); month = pairAt s 5; day = pairAt s 8; hour = pairAt s 11; min = pairAt s 14; sec = sec; nano = nano }))
-  unfolding fromMonth fitsPlace
+  unfolding fromMonth usualShape fitsByte isDelimiter
   usual-parsed limit l =
       let h = usual-long in
       usual-year limit l ∙ rw (
@@ -117,11 +135,11 @@ module _ (s : List ℕ) (u : isUsual s ≡ true) where
       )
 
   pub seconds-last : length s ≡ 19 → seconds (drop 17 s) ≡ Seconds.Got (pairAt s 17) 0
-  unfolding seconds fitsPlace
+  unfolding seconds usualShape fitsByte
   seconds-last e = rw (last-at s 17 (two-at 17 (omega arith) .1) Point e)
 
   pub seconds-more : (length s ≡ 19 → ⊥) → seconds (drop 17 s) ≡ fraction (pairAt s 17) (drop 20 s)
-  unfolding seconds fitsPlace
+  unfolding seconds usualShape fitsByte
   seconds-more e =
       let h = usual-long in
       let g = got-at s 17 (two-at 17 (omega arith) .1) Point (omega arith) (rw (ne-eqb (length s) 19 e) at (shape .1)) in

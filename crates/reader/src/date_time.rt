@@ -11,7 +11,8 @@ ghost use mathlib.Core.Path.{_≡_};
 ghost use mathlib.Core.Bool.{true};
 ghost use Prim.Native.Nat.{ℕ, _^_, _≤_, _<_};
 ghost use Rattle.errors.specs.declared.ParseDateTimeError.the-variants.{MissingField};
-ghost use Rattle.reader.specs.Usual.{fitsPlace, isUsual};
+ghost use lib.ListN.{getD};
+ghost use Rattle.reader.specs.Usual.{usualShape, fitsByte, isUsual};
 ghost use Rattle.reader.specs.Text.{withSign, withoutSign, onField, onSeconds, fromMonth, parsed};
 
 // What a text says: no rule on dates was asked yet.
@@ -111,8 +112,9 @@ fn parse_from_month(year: i64, text: &[u8]) -> Parsed
     )
 }
 
+// Whether the byte may stand at the place of the usual shape; a digit may stand behind it.
 fn fits_place(place: usize, byte: u8) -> bool
-    ensures { λ r. ⌜ r ≡ fitsPlace place byte ⌝ }
+    ensures { λ r. ⌜ r ≡ fitsByte (getD usualShape place 48) byte ⌝ }
 {
     if place == 4 || place == 7 {
         return fields::is_delimiter(Delimiter::Hyphen, byte);

@@ -7,7 +7,7 @@ use lib.ListN.{drop}
 use borrow.Author.Tests.{eq-eqb, ne-eqb, not-true, not-false}
 use borrow.Author.Needs.{needs}
 use Rattle.reader.specs.Fields.{isDelimiter}
-use Rattle.reader.specs.Usual.{fitsFrom, isUsual}
+use Rattle.reader.specs.Usual.{usualShape, fits, isUsual}
 use Rattle.reader.proofs.Usual.{fits-step, fits-long}
 use Rattle.reader.proofs.date_time.is_usual.Statement.{statement}
 use Rattle.reader.proofs.date_time.is_usual.Tie as tie
@@ -17,22 +17,22 @@ refuted true h = absurd (h refl)
 refuted false h = refl
 
 abbrev Inv-loop : tie.InvT-loop
-Inv-loop text i₀ i = (i ≤ 19) × (fitsFrom 19 0 text ≡ fitsFrom (19 - i) i (drop i text))
+Inv-loop text i₀ i = (i ≤ 19) × (fits usualShape text ≡ fits (drop i usualShape) (drop i text))
 
 abbrev μ-loop : tie.MeasureT-loop
 μ-loop text i₀ i = 19 - i
 
-whole : (k : tie.After-loop Inv-loop μ-loop) → fitsFrom 19 0 (k .before .before .before .before .args .text .now) ≡ true
-unfolding fitsFrom
+whole : (k : tie.After-loop Inv-loop μ-loop) → fits usualShape (k .before .before .before .before .args .text .now) ≡ true
+unfolding usualShape fits
 whole k =
-    let z : 19 - k .before .loop .i ≡ 0 = omega arith in
+    let z : k .before .loop .i ≡ 19 = omega arith in
     k .before .loop .inv .1 ∙ rw z
 
 returns : tie.Need-returns Inv-loop μ-loop
-unfolding isUsual
+unfolding isUsual usualShape
 returns c =
     let s = c .before .before .args .text .now in
-    rw (refuted (fitsFrom 19 0 s) (λ e. omega (arith, fits-long 19 0 s e)))
+    rw (refuted (fits usualShape s) (λ e. omega (arith, fits-long usualShape s e)))
 
 loop-holds : tie.Need-loop-holds Inv-loop μ-loop
 loop-holds c = (omega arith, refl)

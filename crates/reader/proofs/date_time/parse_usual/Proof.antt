@@ -9,7 +9,7 @@ use mir.Val.{toZ, ofZ}
 use borrow.Author.Needs.{needs}
 use Rattle.integers.proofs.Machine.{signed, known}
 use Rattle.reader.specs.Fields.{seconds}
-use Rattle.reader.specs.Usual.{fitsPlace, pairAt}
+use Rattle.reader.specs.Usual.{usualShape, fitsByte, pairAt}
 use Rattle.reader.specs.Text.{onSeconds, parsed}
 use Rattle.reader.specs.declared.date_time.Parsed.the-variants.{Fields}
 use Rattle.reader.proofs.Usual.{two-at, usual-parsed, seconds-last, seconds-more}
@@ -17,14 +17,14 @@ use Rattle.reader.proofs.date_time.parse_usual.Statement.{statement}
 use Rattle.reader.proofs.date_time.parse_usual.Tie as tie
 
 pair-requires : tie.Need-pair-requires
-unfolding fitsPlace
+unfolding usualShape fitsByte
 pair-requires c κs = two-at _ (c .before .pre) 0 (omega arith)
 
 cast-hundreds : tie.Need-cast-hundreds
 cast-hundreds c = search needs
 
 pair-requires-2 : tie.Need-pair-requires-2
-unfolding fitsPlace
+unfolding usualShape fitsByte
 pair-requires-2 c κs = two-at _ (c .before .before .pre) 2 (omega arith)
 
 cast-rest : tie.Need-cast-rest
@@ -44,23 +44,23 @@ year : (k : tie.After-pair2) → let s = k .before .before .before .args .text .
 year k = omega (arith, signed, known (cast-hundreds (search)), known (cast-rest k), known (mul-year k), known (add-year k))
 
 pair-requires-3 : tie.Need-pair-requires-3
-unfolding fitsPlace
+unfolding usualShape fitsByte
 pair-requires-3 c κs = two-at _ (c .before .before .before .pre) 5 (omega arith)
 
 pair-requires-4 : tie.Need-pair-requires-4
-unfolding fitsPlace
+unfolding usualShape fitsByte
 pair-requires-4 c κs = two-at _ (c .before .before .before .before .pre) 8 (omega arith)
 
 pair-requires-5 : tie.Need-pair-requires-5
-unfolding fitsPlace
+unfolding usualShape fitsByte
 pair-requires-5 c κs = two-at _ (c .before .before .before .before .before .pre) 11 (omega arith)
 
 pair-requires-6 : tie.Need-pair-requires-6
-unfolding fitsPlace
+unfolding usualShape fitsByte
 pair-requires-6 c κs = two-at _ (c .before .before .before .before .before .before .pre) 14 (omega arith)
 
 pair-requires-7 : tie.Need-pair-requires-7
-unfolding fitsPlace
+unfolding usualShape fitsByte
 pair-requires-7 c κs = two-at _ (c .before .before .before .before .before .before .before .pre) 17 (omega arith)
 
 found : (k : tie.After-pair7) (limit : ℕ) → 9999 ≤ limit → let s = k .before .before .before .before .before .before .before .before .args .text .now in
