@@ -29,7 +29,7 @@ pub fn pair(s: &[u8], at: usize) -> u8
 }
 
 // Too large and ill formed are the same refusal, so that the first digit too many ends it: n never passes the limit.
-fn digits(s: &[u8], limit: u64) -> Number
+pub fn digits(s: &[u8], limit: u64) -> Number
     ensures { λ r. ⌜ r ≡ digitsUpTo limit (now (s .entry)) ⌝ }
 {
     if s.len() == 0 {

@@ -1,0 +1,73 @@
+-- Words, one byte after the other.
+use mathlib.Core.Path.{_≡_, refl, ap}
+use mathlib.Core.Bool.{true, false, and-false}
+use mathlib.Core.List.{List, [], _∷_}
+use Prim.Native.Nat.{ℕ, zero, suc, _+_, _-_, _<_, _≤_}
+use native.Mathlib.Nat.{add-zero}
+use native.Mathlib.Numerals.{add-one, sub-one}
+use native.Mathlib.Omega.{arith}
+use lib.ListN.{length, drop, getD, drop-of-length-le, length-drop}
+use lib.Seq.{drop-cons, drop-drop}
+use borrow.Author.Tests.{eq-eqb, ne-eqb}
+use Rattle.reader.specs.Numbers.{beginsWith}
+use Rattle.words.specs.Words.{wordLength, alike, fieldLength, restAt}
+
+module _ (s : List ℕ) (i : ℕ) where
+  pub word-found : i < length s → getD s i 0 ≡ 32 → i + wordLength (drop i s) ≡ i
+  unfolding wordLength
+  word-found h e = rw (drop-cons s i 0 h, eq-eqb _ _ e, add-zero)
+
+  pub word-more : i < length s → (getD s i 0 ≡ 32 → ⊥) → i + wordLength (drop i s) ≡ i + 1 + wordLength (drop (i + 1) s)
+  unfolding wordLength
+  word-more h e = rw (drop-cons s i 0 h, ne-eqb _ _ e, add-one) (omega arith)
+
+  pub word-end : length s ≤ i → i + wordLength (drop i s) ≡ i
+  unfolding wordLength
+  word-end h = rw (drop-of-length-le s h, add-zero)
+
+pub alike-other : (s t : List ℕ) → (length s ≡ length t → ⊥) → false ≡ alike s t
+unfolding alike
+alike-other [] [] h = absurd (h refl)
+alike-other [] (y ∷ t) h = refl
+alike-other (x ∷ s) [] h = refl
+alike-other (x ∷ s) (y ∷ t) h = rw (← alike-other s t (λ e. h (ap suc e)), and-false)
+
+module _ (s t : List ℕ) (i : ℕ) where
+  pub alike-end : length s ≤ i → length t ≤ i → true ≡ alike (drop i s) (drop i t)
+  unfolding alike
+  alike-end h g = rw (drop-of-length-le s h, drop-of-length-le t g)
+
+module _ (s t : List ℕ) (i : ℕ) (h : i < length s) (g : i < length t) where
+  pub alike-differ : (getD s i 0 ≡ getD t i 0 → ⊥) → false ≡ alike (drop i s) (drop i t)
+  unfolding alike
+  alike-differ e = rw (drop-cons s i 0 h, drop-cons t i 0 g, ne-eqb _ _ e)
+
+  pub alike-more : getD s i 0 ≡ getD t i 0 → alike (drop i s) (drop i t) ≡ alike (drop (i + 1) s) (drop (i + 1) t)
+  unfolding alike
+  alike-more e = rw (drop-cons s i 0 h, drop-cons t i 0 g, eq-eqb _ _ e, add-one)
+
+-- ---- a field: a blank and a word
+pub field-blank : (s : List ℕ) → beginsWith 32 s ≡ true → 1 + wordLength (drop 1 s) ≡ fieldLength s
+unfolding beginsWith fieldLength
+field-blank [] e = let z : _≡_ {A = ℕ} 0 1 = cc in absurd (omega arith)
+field-blank (x ∷ s) e = rw e (omega arith)
+
+pub field-none : (s : List ℕ) → beginsWith 32 s ≡ false → 0 ≡ fieldLength s
+unfolding beginsWith fieldLength
+field-none [] e = refl
+field-none (x ∷ s) e = rw e
+
+pub blank-length : (s : List ℕ) → beginsWith 32 s ≡ true → 0 < length s
+unfolding beginsWith
+blank-length [] e = let z : _≡_ {A = ℕ} 0 1 = cc in absurd (omega arith)
+blank-length (x ∷ s) e = omega arith
+
+pub rest-more : (left at : ℕ) (s : List ℕ) {n : ℕ} → 0 < left → n ≡ fieldLength (drop at s) → restAt left (drop at s) ≡ restAt (left - 1) (drop (at + n) s)
+unfolding restAt
+rest-more zero at s h f = absurd (omega arith)
+rest-more (suc left) at s h f = rw (f, drop-drop, sub-one)
+
+pub rest-within : (i : ℕ) (s : List ℕ) → length (restAt i s) ≤ length s
+unfolding restAt
+rest-within zero s = omega arith
+rest-within (suc i) s = omega (arith, rest-within i (drop (fieldLength s) s), length-drop (fieldLength s) s)

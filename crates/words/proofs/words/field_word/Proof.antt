@@ -1,0 +1,28 @@
+-- `words::words::field_word`.
+use mathlib.Core.Path.{_≡_}
+use Prim.Native.Nat.{_-_}
+use native.Mathlib.Omega.{arith}
+use borrow.Author.Needs.{needs}
+use Rattle.words.specs.Words.{fieldWord}
+use Rattle.words.proofs.words.field_word.Statement.{statement}
+use Rattle.words.proofs.words.field_word.Tie as tie
+
+returns : tie.Need-returns
+unfolding fieldWord
+returns c = rw (← c .before .before .field-length .ensures .0)
+
+returns-2 : tie.Need-returns-2
+unfolding fieldWord
+returns-2 c = let z : c .before .before .field-length .result - 1 ≡ 0 = omega arith in rw (← c .before .before .field-length .ensures .0, z)
+
+pub field-word-spec : {M : Type 1} → statement M
+field-word-spec =
+    tie.close
+    (tie.spec
+    (λ c κs. search needs)
+    (λ c. search needs)
+    (λ c. search needs)
+    (λ c. search needs)
+    (λ c. search needs)
+    returns
+    returns-2)

@@ -1,0 +1,77 @@
+// Words between blanks. A field is a blank and the word behind it.
+use reader::bytes::begins_with;
+use reader::bytes::skip;
+ghost use mathlib.Core.Path.{_≡_};
+ghost use Prim.Native.Nat.{_≤_};
+ghost use lib.ListN.{length};
+ghost use Rattle.words.specs.Words.{wordLength, alike, fieldLength, fieldWord, restAt, wordAt};
+
+// How many bytes stand before the first blank.
+pub fn word_length(s: &[u8]) -> usize
+    ensures { λ r. ⌜ r ≡ wordLength (now (s .entry)) ⌝ }
+    ensures { λ r. ⌜ r ≤ length (now (s .entry)) ⌝ }
+{
+    let mut i = 0;
+    while i < s.len() {
+        if s[i] == b' ' {
+            return i;
+        }
+        i += 1;
+    }
+    i
+}
+
+pub fn same(s: &[u8], t: &[u8]) -> bool
+    ensures { λ r. ⌜ r ≡ alike (now (s .entry)) (now (t .entry)) ⌝ }
+{
+    if s.len() != t.len() {
+        return false;
+    }
+    let mut i = 0;
+    while i < s.len() {
+        if s[i] != t[i] {
+            return false;
+        }
+        i += 1;
+    }
+    true
+}
+
+// How many bytes the field in front has; 0 where no blank is in front.
+pub fn field_length(s: &[u8]) -> usize
+    ensures { λ r. ⌜ r ≡ fieldLength (now (s .entry)) ⌝ }
+    ensures { λ r. ⌜ r ≤ length (now (s .entry)) ⌝ }
+{
+    if begins_with(s, b' ') {
+        return 1 + word_length(skip(s, 1));
+    }
+    0
+}
+
+// Its word.
+pub fn field_word(s: &[u8]) -> &[u8]
+    ensures { λ r. ⌜ now r ≡ fieldWord (now (s .entry)) ⌝ }
+{
+    let n = field_length(s);
+    if 0 < n { &s[1..n] } else { &s[..0] }
+}
+
+// What is left from the field i on.
+pub fn rest_at(s: &[u8], i: usize) -> &[u8]
+    ensures { λ r. ⌜ now r ≡ restAt i (now (s .entry)) ⌝ }
+{
+    let mut at = 0;
+    let mut left = i;
+    while 0 < left {
+        at += field_length(skip(s, at));
+        left -= 1;
+    }
+    skip(s, at)
+}
+
+// The word i.
+pub fn word_at(s: &[u8], i: usize) -> &[u8]
+    ensures { λ r. ⌜ now r ≡ wordAt i (now (s .entry)) ⌝ }
+{
+    field_word(rest_at(s, i))
+}
