@@ -1,2 +1,5 @@
 pub mod Splits
 pub mod Decimal
+pub mod ByRow
+pub mod Ranges
+pub mod Fitting

@@ -1,0 +1,68 @@
+// A row of kinds: what words stand behind a verb.
+use crate::numbers::Signed;
+use crate::numbers::TOP;
+use crate::numbers::parse_signed;
+use crate::numbers::parse_unsigned;
+use crate::tables::parse_epoch;
+use crate::words::field_length;
+use crate::words::field_word;
+use crate::words::same;
+use reader::bytes::begins_with;
+use reader::bytes::skip;
+use reader::numbers::Number;
+ghost use mathlib.Core.Path.{_≡_};
+ghost use Rattle.words.specs.Rows.{isSigned, isNumber, good, fits};
+
+fn is_signed(x: Signed) -> bool
+    ensures { λ r. ⌜ r ≡ isSigned x ⌝ }
+{
+    match x {
+        Signed::Value(_) => true,
+        Signed::Bad => false,
+    }
+}
+
+fn is_number(x: Number) -> bool
+    ensures { λ r. ⌜ r ≡ isNumber x ⌝ }
+{
+    match x {
+        Number::Value(_) => true,
+        Number::Bad => false,
+    }
+}
+
+// What is in front of s is of the kind.
+fn is_good(kind: u8, s: &[u8]) -> bool
+    ensures { λ r. ⌜ r ≡ good kind (now (s .entry)) ⌝ }
+{
+    let word = field_word(s);
+    match kind {
+        b'e' => is_signed(parse_epoch(word)),
+        b'i' => is_signed(parse_signed(word, TOP)),
+        b'y' => is_signed(parse_signed(word, 2147483647)),
+        b'U' => is_number(parse_unsigned(word, 18446744073709551615)),
+        b'u' => is_number(parse_unsigned(word, 4294967295)),
+        b'b' => is_number(parse_unsigned(word, 255)),
+        b'p' => same(word, b"-") || is_number(parse_unsigned(word, 18446744073709551615)),
+        b't' => begins_with(s, b' '),
+        b'.' => s.len() == 0,
+        _ => false,
+    }
+}
+
+// Behind a verb stand the words of a row.
+pub fn row_fits(s: &[u8], row: &[u8]) -> bool
+    ensures { λ r. ⌜ r ≡ fits (now (row .entry)) (now (s .entry)) ⌝ }
+{
+    let mut at = 0;
+    let mut i = 0;
+    while i < row.len() {
+        let rest = skip(s, at);
+        if !is_good(row[i], rest) {
+            return false;
+        }
+        at += field_length(rest);
+        i += 1;
+    }
+    true
+}

@@ -1,0 +1,67 @@
+// The words by their place, as values of their types: 0 where the word is none of the type.
+use crate::numbers::Signed;
+use crate::numbers::TOP;
+use crate::numbers::parse_signed;
+use crate::numbers::parse_unsigned;
+use crate::tables::parse_epoch;
+use crate::words::word_at;
+use reader::numbers::Number;
+ghost use mathlib.Core.Path.{_≡_};
+ghost use Prim.Native.Nat.{_≤_};
+ghost use Rattle.words.specs.Numbers.{epochAt, wholeAt, naturalAt};
+
+pub fn epoch_at(s: &[u8], i: usize) -> i64
+    ensures { λ r. ⌜ r ≡ epochAt i (now (s .entry)) ⌝ }
+{
+    match parse_epoch(word_at(s, i)) {
+        Signed::Value(v) => v,
+        Signed::Bad => 0,
+    }
+}
+
+pub fn i64_at(s: &[u8], i: usize) -> i64
+    ensures { λ r. ⌜ r ≡ wholeAt 9223372036854775807 i (now (s .entry)) ⌝ }
+{
+    match parse_signed(word_at(s, i), TOP) {
+        Signed::Value(v) => v,
+        Signed::Bad => 0,
+    }
+}
+
+pub fn i32_at(s: &[u8], i: usize) -> i32
+    ensures { λ r. ⌜ r ≡ wholeAt 2147483647 i (now (s .entry)) ⌝ }
+{
+    match parse_signed(word_at(s, i), 2147483647) {
+        Signed::Value(v) => v as i32,
+        Signed::Bad => 0,
+    }
+}
+
+// A number of an unsigned type whose top is the limit.
+fn natural_at(s: &[u8], limit: u64, i: usize) -> u64
+    ensures { λ r. ⌜ r ≡ naturalAt limit i (now (s .entry)) ⌝ }
+    ensures { λ r. ⌜ r ≤ limit ⌝ }
+{
+    match parse_unsigned(word_at(s, i), limit) {
+        Number::Value(v) => v,
+        Number::Bad => 0,
+    }
+}
+
+pub fn u64_at(s: &[u8], i: usize) -> u64
+    ensures { λ r. ⌜ r ≡ naturalAt 18446744073709551615 i (now (s .entry)) ⌝ }
+{
+    natural_at(s, 18446744073709551615, i)
+}
+
+pub fn u32_at(s: &[u8], i: usize) -> u32
+    ensures { λ r. ⌜ r ≡ naturalAt 4294967295 i (now (s .entry)) ⌝ }
+{
+    natural_at(s, 4294967295, i) as u32
+}
+
+pub fn u8_at(s: &[u8], i: usize) -> u8
+    ensures { λ r. ⌜ r ≡ naturalAt 255 i (now (s .entry)) ⌝ }
+{
+    natural_at(s, 255, i) as u8
+}
