@@ -1,0 +1,18 @@
+-- `answers::said::of_print`.
+use borrow.Author.Needs.{needs}
+use Rattle.answers.proofs.said.of_print.Statement.{statement}
+use Rattle.answers.proofs.said.of_print.Tie as tie
+
+pub of-print-spec : {M : Type 1} → statement M
+of-print-spec =
+    tie.close
+    (tie.spec
+    (λ c. search needs)
+    (λ c κs. search needs)
+    (λ c. search needs)
+    (λ c κs. search needs)
+    (λ c. search needs)
+    (λ c κs. search needs)
+    (λ c. rw (c .before .enum-told .given .1) (c .bare .ensures))
+    (λ c. rw (c .before .enum-told2 .given .1) (c .bare2 .ensures))
+    (λ c. rw (c .before .enum-told3 .given .1) (c .bare3 .ensures)))

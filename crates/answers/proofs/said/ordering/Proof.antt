@@ -1,0 +1,14 @@
+-- `answers::said::ordering`.
+use borrow.Author.Needs.{needs}
+use Rattle.answers.proofs.said.ordering.Statement.{statement}
+use Rattle.answers.proofs.said.ordering.Tie as tie
+
+pub ordering-spec : {M : Type 1} → statement M
+ordering-spec =
+    tie.close
+    (tie.spec
+    (λ c. search needs)
+    (λ c. search needs)
+    (λ c κs. search needs)
+    (λ c. rw (c .before .a .given .1))
+    (λ c. rw (c .before .before .a2 .given .1) (c .of-count .ensures)))

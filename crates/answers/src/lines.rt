@@ -1,0 +1,97 @@
+// What an entry answered, as a line from the front of out, and the place behind it.
+use crate::said::Refusal;
+use crate::said::Said;
+use counts::Ordering;
+use texts::put;
+use texts::put_behind_blank;
+use texts::put_integer;
+use texts::put_natural;
+use words::words::word_at;
+ghost use Prim.Native.Nat.{_+_, _≤_};
+ghost use lib.ListN.{length};
+ghost use Rattle.texts.specs.Texts.{Put};
+ghost use Rattle.words.specs.Words.{wordAt};
+ghost use Rattle.answers.specs.Answers.{names, mark, orderText};
+ghost use Rattle.answers.specs.Said.{refusedText, saidText};
+
+fn put_mark(out: &mut [u8], at: usize, in_range_error: bool) -> usize
+    requires { ⌜ at + 11 ≤ length (now out) ⌝ }
+    ensures { λ r. ⌜ Put (now (out .entry)) at (mark «in_range_error») (now (out .exit)) r ⌝ }
+    ensures { λ r. ⌜ r ≤ at + 11 ⌝ }
+{
+    if in_range_error {
+        return put(out, at, b"RangeError ");
+    }
+    at
+}
+
+fn put_name(out: &mut [u8], at: usize, number: u8) -> usize
+    requires { ⌜ at + 17 ≤ length (now out) ⌝ }
+    ensures { λ r. ⌜ Put (now (out .entry)) at (wordAt number names) (now (out .exit)) r ⌝ }
+    ensures { λ r. ⌜ r ≤ at + 17 ⌝ }
+{
+    let names =
+        b" InvalidMonth InvalidDayOfMonth InvalidHour InvalidMinute InvalidSecond InvalidNanosecond OutOfRange MissingField InvalidFieldWidth InvalidFieldValue NotRepresentable BadNanos StartOutside NoRoom";
+    put(out, at, word_at(names, number as usize))
+}
+
+pub fn put_refusal(out: &mut [u8], refusal: Refusal) -> usize
+    requires { ⌜ 128 ≤ length (now out) ⌝ }
+    ensures { λ r. ⌜ Put (now (out .entry)) 0 (refusedText refusal) (now (out .exit)) r ⌝ }
+    ensures { λ r. ⌜ r ≤ 80 ⌝ }
+{
+    let at = put(out, 0, b"refused ");
+    let at = put_natural(out, at, refusal.number as u64);
+    let at = put(out, at, b" ");
+    let at = put_mark(out, at, refusal.in_range_error);
+    let at = put_name(out, at, refusal.number);
+    if refusal.valued {
+        return put_behind_blank(out, at, refusal.value as u64);
+    }
+    at
+}
+
+fn put_order(out: &mut [u8], at: usize, o: Ordering) -> usize
+    requires { ⌜ at + 7 ≤ length (now out) ⌝ }
+    ensures { λ r. ⌜ Put (now (out .entry)) at (orderText o) (now (out .exit)) r ⌝ }
+    ensures { λ r. ⌜ r ≤ at + 7 ⌝ }
+{
+    match o {
+        Ordering::Less => put(out, at, b"earlier"),
+        Ordering::Equal => put(out, at, b"same"),
+        Ordering::Greater => put(out, at, b"later"),
+    }
+}
+
+pub fn put_said(out: &mut [u8], said: Said) -> usize
+    requires { ⌜ 128 ≤ length (now out) ⌝ }
+    ensures { λ r. ⌜ Put (now (out .entry)) 0 (saidText said) (now (out .exit)) r ⌝ }
+    ensures { λ r. ⌜ r ≤ 80 ⌝ }
+{
+    match said {
+        Said::Time(t) => {
+            let at = put(out, 0, b"ok ");
+            let at = put_integer(out, at, t.secs);
+            put_behind_blank(out, at, t.nanos as u64)
+        }
+        Said::Unix(u) => {
+            let at = put(out, 0, b"ok ");
+            put_integer(out, at, u.0)
+        }
+        Said::Lasts(d) => {
+            let at = put(out, 0, b"ok ");
+            let at = put_natural(out, at, d.secs);
+            put_behind_blank(out, at, d.nanos as u64)
+        }
+        Said::Number(n) => {
+            let at = put(out, 0, b"ok ");
+            put_natural(out, at, n)
+        }
+        Said::Order(o) => {
+            let at = put(out, 0, b"ok ");
+            put_order(out, at, o)
+        }
+        Said::Refused(r) => put_refusal(out, r),
+        Said::Malformed => put(out, 0, b"malformed"),
+    }
+}
