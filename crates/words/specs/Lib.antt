@@ -1,4 +1,5 @@
 pub mod Words
 pub mod Numbers
+pub mod Hex
 pub mod Tables
 pub mod Rows
