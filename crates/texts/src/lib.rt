@@ -1,0 +1,78 @@
+// Texts, numbers and HEX, written from a place on. Each function answers with the place behind what it wrote.
+use words::hex::digit;
+ghost use mathlib.Core.Path.{_≡_};
+ghost use mathlib.Core.List.{_++_};
+ghost use Prim.Native.Nat.{_+_, _*_, _≤_, _<_};
+ghost use lib.ListN.{length};
+ghost use Rattle.words.specs.Words.{bytes as bytesOf};
+ghost use Rattle.texts.specs.Texts.{natural, integer, hexText, Put};
+
+// The text, as it is.
+pub fn put(out: &mut [u8], at: usize, text: &[u8]) -> usize
+    requires { ⌜ at + length (now text) ≤ length (now out) ⌝ }
+    ensures { λ r. ⌜ Put (now (out .entry)) at (now (text .entry)) (now (out .exit)) r ⌝ }
+{
+    let mut i = 0;
+    while i < text.len() {
+        out[at + i] = text[i];
+        i += 1;
+    }
+    at + i
+}
+
+pub fn put_natural(out: &mut [u8], at: usize, n: u64) -> usize
+    requires { ⌜ at + 20 ≤ length (now out) ⌝ }
+    ensures { λ r. ⌜ Put (now (out .entry)) at (natural n) (now (out .exit)) r ⌝ }
+    ensures { λ r. ⌜ r ≤ at + 20 ⌝ }
+{
+    if n < 10 {
+        out[at] = 48 + n as u8;
+        return at + 1;
+    }
+    let next = put_natural(out, at, n / 10);
+    out[next] = 48 + (n % 10) as u8;
+    next + 1
+}
+
+pub fn put_integer(out: &mut [u8], at: usize, n: i64) -> usize
+    requires { ⌜ at + 21 ≤ length (now out) ⌝ }
+    ensures { λ r. ⌜ Put (now (out .entry)) at (integer n) (now (out .exit)) r ⌝ }
+    ensures { λ r. ⌜ r ≤ at + 21 ⌝ }
+{
+    if n < 0 {
+        out[at] = b'-';
+        return put_natural(out, at + 1, (-1 - n) as u64 + 1);
+    }
+    put_natural(out, at, n as u64)
+}
+
+pub fn put_behind_blank(out: &mut [u8], at: usize, n: u64) -> usize
+    requires { ⌜ at + 21 ≤ length (now out) ⌝ }
+    ensures { λ r. ⌜ Put (now (out .entry)) at (bytesOf " " ++ natural n) (now (out .exit)) r ⌝ }
+    ensures { λ r. ⌜ r ≤ at + 21 ⌝ }
+{
+    out[at] = b' ';
+    put_natural(out, at + 1, n)
+}
+
+// The HEX of bytes.
+pub fn put_hex(out: &mut [u8], at: usize, bytes: &[u8]) -> usize
+    requires { ⌜ at + 2 * length (now bytes) < length (now out) ⌝ }
+    ensures { λ r. ⌜ Put (now (out .entry)) at (hexText (now (bytes .entry))) (now (out .exit)) r ⌝ }
+    ensures { λ r. ⌜ r ≤ at + 2 * length (now (bytes .entry)) + 1 ⌝ }
+{
+    if bytes.len() == 0 {
+        out[at] = b'-';
+        return at + 1;
+    }
+    let mut i = 0;
+    let mut next = at;
+    while i < bytes.len() {
+        let byte = bytes[i];
+        out[next] = digit(byte / 16);
+        out[next + 1] = digit(byte % 16);
+        next += 2;
+        i += 1;
+    }
+    next
+}
