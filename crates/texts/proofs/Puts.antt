@@ -2,25 +2,22 @@
 use mathlib.Core.Path.{_≡_, refl, sym, _∙_}
 use mathlib.Core.Bool.{Bool, true, false, cond}
 use mathlib.Core.List.{List, [], _∷_, _++_}
-use Prim.Native.Nat.{ℕ, zero, suc, _+_, _*_, _/_, _%_, _^_, _<_, _≤_}
+use Prim.Native.Nat.{ℕ, zero, suc, _+_, _*_, _-_, _/_, _%_, _^_, _<_, _≤_}
 use native.Mathlib.Nat.{zero-add, pow-suc}
-use native.Mathlib.Numerals.{add-one}
 use native.Mathlib.Omega.{arith}
 use lib.Dec.{ltb}
-use lib.ListN.{length, set, drop, getD, length-append}
-use lib.Seq.{sets, sets-eq, drop-cons}
+use lib.IntN.{ℤ, pos, negsuc}
+use lib.ListN.{length, set, drop, length-append}
+use lib.Seq.{sets-eq}
+use mir.Syntax.{w64}
+use mir.Val.{SFits, ofZ}
 use borrow.Author.Tests.{lt-ltb, le-ltb}
 use Rattle.printer.proofs.Stores.{sets-append}
-use Rattle.words.specs.Hex.{digitOf}
-use Rattle.texts.specs.Texts.{inPlaces, natural, digitPairs, Put}
+use Rattle.texts.specs.Texts.{inPlaces, natural, integer, digitPairs, Put}
 
-module _ {s l : List ℕ} {at r : ℕ} {text : List ℕ} where
-  pub put-on : {m : List ℕ} {q : ℕ} {more : List ℕ} → Put s at text l r → Put l r more m q → Put s at (text ++ more) m q
-  put-on {m} {q} {more} a b =
-      record {
-        line = b .line ∙ rw (a .line, a .place) (sym (sets-append s at text more));
-        place = b .place ∙ rw (length-append) (omega (arith, a .place));
-      }
+pub put-on : {s l m : List ℕ} {at r q : ℕ} {text more : List ℕ} → Put s at text l r → Put l r more m q → Put s at (text ++ more) m q
+put-on {s} {at = at} {text = text} {more = more} a b =
+    record { line = b .line ∙ rw (a .line, a .place) (sym (sets-append s at text more)); place = b .place ∙ rw length-append (omega (arith, a .place)) }
 
 pub put-none : (s : List ℕ) (at : ℕ) → Put s at [] s at
 put-none s at = record { line = refl; place = omega arith }
@@ -52,18 +49,25 @@ pub natural-more : (n : ℕ) → n < 2 ^ 64 → 10 ≤ n → (natural n ≡ natu
 unfolding natural inPlaces
 natural-more n h g = let e = enough 18 (n / 10) (omega arith) in (rw (le-ltb n 10 g, e), rw e (fewer 19 (n / 10)))
 
+-- a number off its bits, which are in the upper half if it is below 0
+module _ {b : ℕ} where
+  pub integer-above : (z : ℤ) → SFits w64 z → b ≡ ofZ w64 z → b < 2 ^ 63 → integer z ≡ natural b
+  unfolding integer
+  integer-above (pos n) f e h = rw e
+  integer-above (negsuc n) f e h = absurd (omega (arith, f .sfits))
+
+  pub integer-below : (z : ℤ) → SFits w64 z → b ≡ ofZ w64 z → 2 ^ 63 ≤ b → integer z ≡ 45 ∷ natural (18446744073709551615 - b + 1)
+  unfolding integer
+  integer-below (pos n) f e h = absurd (omega (arith, f .sfits))
+  integer-below (negsuc n) f e h =
+      let k : 18446744073709551615 - b + 1 ≡ suc n = omega (arith, f .sfits) in
+      rw k
+
 -- ---- HEX
 pub pairs-length : (s : List ℕ) → length (digitPairs s) ≡ 2 * length s
 unfolding digitPairs
 pairs-length [] = refl
 pairs-length (b ∷ s) = omega (arith, pairs-length s)
-
-pub pairs-next : (l s : List ℕ) (next i : ℕ) → i < length s
-    → sets l next (digitPairs (drop i s)) ≡ sets (set (set l next (digitOf (getD s i 0 / 16))) (next + 1) (digitOf (getD s i 0 % 16))) (next + 2) (digitPairs (drop (i + 1) s))
-unfolding digitPairs
-pairs-next l s next i h =
-    let e : next + 2 ≡ suc (suc next) = omega arith in
-    rw (drop-cons s i 0 h, e, add-one, add-one)
 
 -- a number that is none of those counted up to now
 pub past : {k n : ℕ} → k ≤ n → (n ≡ k → ⊥) → suc k ≤ n

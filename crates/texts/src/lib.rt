@@ -1,4 +1,5 @@
 // Texts, numbers and HEX, written from a place on. Each function answers with the place behind what it wrote.
+use integers::to_bits;
 use words::hex::digit;
 ghost use mathlib.Core.Path.{_≡_};
 ghost use mathlib.Core.List.{_++_};
@@ -39,11 +40,13 @@ pub fn put_integer(out: &mut [u8], at: usize, n: i64) -> usize
     ensures { λ r. ⌜ Put (now (out .entry)) at (integer n) (now (out .exit)) r ⌝ }
     ensures { λ r. ⌜ r ≤ at + 21 ⌝ }
 {
-    if n < 0 {
-        out[at] = b'-';
-        return put_natural(out, at + 1, (-1 - n) as u64 + 1);
+    let bits = to_bits(n);
+    if bits < 9223372036854775808 {
+        return put_natural(out, at, bits);
     }
-    put_natural(out, at, n as u64)
+    // Below 0: the bits fall short of 2^64 by its size.
+    out[at] = b'-';
+    put_natural(out, at + 1, 18446744073709551615 - bits + 1)
 }
 
 pub fn put_behind_blank(out: &mut [u8], at: usize, n: u64) -> usize

@@ -1,5 +1,4 @@
 -- `texts::put_natural`, which calls itself: the number is the measure.
-use mathlib.Core.Path.{_∙_}
 use Prim.Native.Nat.{ℕ, _<_}
 use native.Mathlib.Omega.{arith}
 use lib.ListN.{length-set}
@@ -32,5 +31,5 @@ pub +put-natural-spec : {M : Type 1} → statement M
     (λ c. omega arith)
     (λ c. simp length-set (c .before .before .put-natural .kept .0))
     (λ c. let k = c .before .before .before .before in
-      let m = natural-more _ (k .before .before .fits .n .fits) (k .if1 .left) in
-      (rw (m .0) (put-on (c .before .before .put-natural .ensures .0) (put-one _ _ _)), omega (arith, m .1))))
+    let m = natural-more _ (k .before .before .fits .n .fits) (k .if1 .left) in
+    (rw (m .0) (put-on (c .before .before .put-natural .ensures .0) (put-one _ _ _)), omega (arith, m .1))))

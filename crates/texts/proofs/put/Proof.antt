@@ -22,7 +22,7 @@ put-spec =
     (λ c. omega arith)
     (λ c. omega arith)
     (λ c. let l = c .before .before in
-      (omega arith, simp length-set (l .loop .inv .1), l .loop .inv .2 ∙ rw (drop-cons (l .before .args .text .now) (l .loop .i) 0 (omega arith), add-one, add-suc)))
+    (omega arith, simp length-set (l .loop .inv .1), l .loop .inv .2 ∙ rw (drop-cons (l .before .args .text .now) (l .loop .i) 0 (omega arith), add-one, add-suc)))
     (λ c. omega arith)
     (λ c. c .before .loop .inv .1)
     (λ c. record { line = sym (c .before .loop .inv .2 ∙ rw (drop-of-length-le _ (c .loop-test .left))); place = omega arith }))

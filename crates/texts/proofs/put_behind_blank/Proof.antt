@@ -7,15 +7,12 @@ use Rattle.texts.proofs.Puts.{put-on, put-one}
 use Rattle.texts.proofs.put_behind_blank.Statement.{statement}
 use Rattle.texts.proofs.put_behind_blank.Tie as tie
 
-put-natural-requires : tie.Need-put-natural-requires
-put-natural-requires c κs = simp length-set (omega arith)
-
-same-length : tie.Need-same-length
-same-length c = c .before .before .put-natural .kept .0 ∙ simp length-set
-
-returns : tie.Need-returns
-returns c = (put-on (put-one _ _ 32) (c .before .before .put-natural .ensures .0), omega (arith, c .before .before .put-natural .ensures .1))
-
 pub put-behind-blank-spec : {M : Type 1} → statement M
 put-behind-blank-spec =
-    tie.close (tie.spec (λ c. search needs) (λ c. search needs) put-natural-requires same-length returns)
+    tie.close
+    (tie.spec
+    (λ c. search needs)
+    (λ c. search needs)
+    (λ c κs. simp length-set (omega arith))
+    (λ c. c .before .before .put-natural .kept .0 ∙ simp length-set)
+    (λ c. (put-on (put-one _ _ 32) (c .before .before .put-natural .ensures .0), omega arith)))

@@ -1,13 +1,14 @@
 -- `texts::put_hex`. The invariant: the pairs of the bytes that are left are still to be written; the measure: the bytes left.
 use mathlib.Core.Path.{_≡_, refl, sym, _∙_}
-use Prim.Native.Nat.{_+_, _-_, _*_, _≤_}
+use Prim.Native.Nat.{suc, _+_, _-_, _*_, _≤_}
+use native.Mathlib.Numerals.{add-one}
 use native.Mathlib.Omega.{arith}
 use lib.ListN.{length, drop, length-set, drop-of-length-le}
-use lib.Seq.{sets}
+use lib.Seq.{sets, drop-cons}
 use borrow.Author.Needs.{needs}
 use borrow.Author.Tests.{eq-eqb, ne-eqb}
 use Rattle.texts.specs.Texts.{digitPairs, hexText}
-use Rattle.texts.proofs.Puts.{pairs-length, pairs-next}
+use Rattle.texts.proofs.Puts.{pairs-length}
 use Rattle.texts.proofs.put_hex.Statement.{statement}
 use Rattle.texts.proofs.put_hex.Tie as tie
 
@@ -33,8 +34,9 @@ put-hex-spec =
     (λ c. omega arith)
     (λ c. omega arith)
     (λ c. let l = c .before .before .before .before in
-      (omega arith, omega arith, simp length-set (l .loop .inv .2), l .loop .inv .3 ∙ rw (c .before .digit .ensures, c .digit2 .ensures) (pairs-next _ (l .before .before .before .before .args .bytes .now) _ (l .loop .i) (omega arith))))
+    let e : l .loop .next + 2 ≡ suc (suc (l .loop .next)) = omega arith in
+    (omega arith, omega arith, simp length-set (l .loop .inv .2), l .loop .inv .3 ∙ rw (c .before .digit .ensures, c .digit2 .ensures, drop-cons (l .before .before .before .before .args .bytes .now) (l .loop .i) 0 (omega arith), e, add-one, add-one)))
     (λ c. c .before .loop .inv .2)
     (λ c. let s = c .before .before .before .before .before .args .bytes .now in
-      let e = ne-eqb (length s) 0 (c .before .before .if1 .left) in
-      (record { line = rw e (sym (c .before .loop .inv .3 ∙ rw (drop-of-length-le s (c .loop-test .left)))); place = rw e (omega (arith, pairs-length s)) }, omega arith)))
+    let e = ne-eqb (length s) 0 (c .before .before .if1 .left) in
+    (record { line = rw e (sym (c .before .loop .inv .3 ∙ rw (drop-of-length-le s (c .loop-test .left)))); place = rw e (omega (arith, pairs-length s)) }, omega arith)))
