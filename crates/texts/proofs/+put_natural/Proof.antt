@@ -23,7 +23,7 @@ pub +put-natural-spec : {M : Type 1} → statement M
     (λ c. omega arith)
     (λ c. omega arith)
     (λ c. search needs)
-    (λ c. (rw (natural-one _ (c .if1 .taken)) (put-one _ _ _), omega arith))
+    (λ c. (rw (natural-one (c .before .before .args .n) (omega arith)) (put-one _ _ _), omega arith))
     (λ c κs. (omega arith, omega arith))
     (λ c. omega arith)
     (λ c. omega arith)

@@ -27,7 +27,7 @@ put-hex-spec =
     (λ c. omega arith)
     (λ c κs. omega (arith, c .shared-slice-known2 .given (c .before .before .loop .i)))
     (λ c. omega arith)
-    (λ c κs. omega arith)
+    (λ c κs. omega (arith, c .before .shared-slice-known2 .given (c .before .before .before .loop .i)))
     (λ c. omega arith)
     (λ c. simp length-set (omega arith))
     (λ c. omega arith)
