@@ -10,6 +10,7 @@ use Rattle.reader.specs.declared.numbers.Number.{Number}
 use Rattle.reader.specs.declared.numbers.Number.the-variants as Number
 use Rattle.words.specs.Words.{bytes, alike, byWord, fieldLength, fieldWord}
 use Rattle.words.specs.Numbers.{unsigned, signed, epoch}
+use Rattle.words.specs.Hex.{isHex}
 use Rattle.words.specs.declared.numbers.Signed.{Signed}
 use Rattle.words.specs.declared.numbers.Signed.the-variants as Signed
 
@@ -31,6 +32,7 @@ kinds s =
     ∷ ("u", isNumber (unsigned 4294967295 (fieldWord s)))
     ∷ ("b", isNumber (unsigned 255 (fieldWord s)))
     ∷ ("p", alike (fieldWord s) (bytes "-") || isNumber (unsigned 18446744073709551615 (fieldWord s)))
+    ∷ ("x", isHex (fieldWord s))
     ∷ ("t", beginsWith 32 s)
     ∷ (".", eqb (length s) 0)
     ∷ []

@@ -1,4 +1,5 @@
 // A row of kinds: what words stand behind a verb.
+use crate::hex::is_hex;
 use crate::numbers::Signed;
 use crate::numbers::TOP;
 use crate::numbers::parse_signed;
@@ -44,6 +45,7 @@ fn is_good(kind: u8, s: &[u8]) -> bool
         b'u' => is_number(parse_unsigned(word, 4294967295)),
         b'b' => is_number(parse_unsigned(word, 255)),
         b'p' => same(word, b"-") || is_number(parse_unsigned(word, 18446744073709551615)),
+        b'x' => is_hex(word),
         b't' => begins_with(s, b' '),
         b'.' => s.len() == 0,
         _ => false,

@@ -40,15 +40,19 @@ returns-8 c = rw (c .before .before .before .before .before .match .keys7, ← c
 
 returns-9 : tie.Need-returns-9
 unfolding good alike
-returns-9 c = rw (c .before .match .keys8) (c .begins-with .ensures)
+returns-9 c = rw (c .before .match .keys8, ← c .before .before .field-word .ensures) (c .is-hex .ensures)
 
 returns-10 : tie.Need-returns-10
 unfolding good alike
-returns-10 c = rw (c .match .keys9)
+returns-10 c = rw (c .before .match .keys9) (c .begins-with .ensures)
 
 returns-11 : tie.Need-returns-11
 unfolding good alike
-returns-11 c = let no = c .match .rest in rw (ne-eqb _ _ (no .0 .0 .0 .0 .0 .0 .0 .0 .1), ne-eqb _ _ (no .0 .0 .0 .0 .0 .0 .0 .1), ne-eqb _ _ (no .0 .0 .0 .0 .0 .0 .1), ne-eqb _ _ (no .0 .0 .0 .0 .0 .1), ne-eqb _ _ (no .0 .0 .0 .0 .1), ne-eqb _ _ (no .0 .0 .0 .1), ne-eqb _ _ (no .0 .0 .1), ne-eqb _ _ (no .0 .1), ne-eqb _ _ (no .1))
+returns-11 c = rw (c .match .keys10)
+
+returns-12 : tie.Need-returns-12
+unfolding good alike
+returns-12 c = let no = c .match .rest in rw (ne-eqb _ _ (no .0 .0 .0 .0 .0 .0 .0 .0 .0 .1), ne-eqb _ _ (no .0 .0 .0 .0 .0 .0 .0 .0 .1), ne-eqb _ _ (no .0 .0 .0 .0 .0 .0 .0 .1), ne-eqb _ _ (no .0 .0 .0 .0 .0 .0 .1), ne-eqb _ _ (no .0 .0 .0 .0 .0 .1), ne-eqb _ _ (no .0 .0 .0 .0 .1), ne-eqb _ _ (no .0 .0 .0 .1), ne-eqb _ _ (no .0 .0 .1), ne-eqb _ _ (no .0 .1), ne-eqb _ _ (no .1))
 
 pub is-good-spec : {M : Type 1} → statement M
 is-good-spec =
@@ -72,6 +76,7 @@ is-good-spec =
     (λ c κs. search needs)
     (λ c κs. search needs)
     (λ c κs. search needs)
+    (λ c κs. search needs)
     returns
     returns-2
     returns-3
@@ -82,4 +87,5 @@ is-good-spec =
     returns-8
     returns-9
     returns-10
-    returns-11)
+    returns-11
+    returns-12)
