@@ -8,8 +8,8 @@ use native.Mathlib.Omega.{arith}
 use lib.Dec.{leb}
 use lib.ListN.{length}
 use borrow.Author.Tests.{le-leb, lt-ltb, ne-eqb, leb-true}
-use Rattle.reader.specs.Numbers.{beginsWith, isDigit, allDigits, decimalAfter, decimal, digitsUpTo, number}
-use Rattle.reader.specs.declared.numbers.Number.the-variants.{Value}
+use Rattle.fields.specs.Numbers.{beginsWith, isDigit, allDigits, decimalAfter, decimal, digitsUpTo, number}
+use Rattle.fields.specs.declared.numbers.Number.the-variants.{Value}
 use Rattle.counts.proofs.Checks.{both}
 use Rattle.printer.specs.Text.{digits}
 use Rattle.printer.proofs.Decimal.{digits-length}

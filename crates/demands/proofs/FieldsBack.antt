@@ -7,16 +7,16 @@ use native.Mathlib.Omega.{arith}
 use lib.ListN.{length, length-append}
 use lib.Seq.{drop-append-add, take-append-seam, take-all}
 use borrow.Author.Tests.{le-leb, lt-ltb, ne-eqb}
-use Rattle.reader.specs.Numbers.{beginsWith, isDigit, allDigits, decimalAfter}
-use Rattle.reader.specs.Fields.{isDelimiter, width, before, delimited, behind, twoDigits, nanoseconds, seconds}
+use Rattle.fields.specs.Numbers.{beginsWith, isDigit, allDigits, decimalAfter}
+use Rattle.fields.specs.Fields.{isDelimiter, width, before, delimited, behind, twoDigits, nanoseconds, seconds}
 use Rattle.reader.specs.Text.{field, fromMonth, withSign, fromYear, withoutSign}
-use Rattle.reader.specs.declared.fields.Delimiter.{Delimiter}
-use Rattle.reader.specs.declared.fields.Delimiter.the-variants.{Hyphen, SpaceOrT, Colon, Point}
-use Rattle.reader.specs.declared.fields.Field.the-variants as Field
-use Rattle.reader.specs.declared.fields.Seconds.the-variants as Seconds
+use Rattle.fields.specs.declared.delimited.Delimiter.{Delimiter}
+use Rattle.fields.specs.declared.delimited.Delimiter.the-variants.{Hyphen, SpaceOrT, Colon, Point}
+use Rattle.fields.specs.declared.delimited.Field.the-variants as Field
+use Rattle.fields.specs.declared.delimited.Seconds.the-variants as Seconds
 use Rattle.reader.specs.declared.date_time.Parsed.{Parsed}
 use Rattle.counts.proofs.Checks.{both}
-use Rattle.reader.proofs.Tenths.{good-fraction}
+use Rattle.fields.proofs.Tenths.{good-fraction}
 use Rattle.printer.specs.Text.{digits, pointed}
 use Rattle.printer.proofs.Decimal.{digits-length}
 use Rattle.demands.proofs.DigitsBack.{all-digits, digit-low, digit-high, number-digits, begins-not}

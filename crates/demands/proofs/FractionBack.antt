@@ -8,10 +8,10 @@ use native.Mathlib.Omega.{arith}
 use lib.Dec.{eqb, lit<}
 use lib.ListN.{length}
 use borrow.Author.Tests.{eqb-true}
-use Rattle.reader.specs.Numbers.{isDigit, allDigits}
-use Rattle.reader.specs.Fields.{nanoseconds}
+use Rattle.fields.specs.Numbers.{isDigit, allDigits}
+use Rattle.fields.specs.Fields.{nanoseconds}
 use Rattle.counts.proofs.Checks.{both}
-use Rattle.reader.proofs.Tenths.{weighed, weighed-nanoseconds}
+use Rattle.fields.proofs.Tenths.{weighed, weighed-nanoseconds}
 use Rattle.printer.specs.Text.{digits, unlessLast, trim}
 use Rattle.printer.proofs.Decimal.{digits-length}
 use Rattle.demands.proofs.DigitsBack.{all-digits}

@@ -13,8 +13,8 @@ use Rattle.calendar.specs.Walk.{divides, isLeap, monthRow, monthLength}
 use Rattle.calendar.specs.Closed.{leapYears, yearStart, sumTo, dayOfYear, dayNumber}
 use Rattle.calendar.specs.Moments.{secondOfDay, secondsOf}
 use Rattle.counts.specs.Counts.{dateTimeSecs, fromDateTime, exact, timeAt, added}
-use Rattle.reader.specs.Numbers.{beginsWith, isDigit, allDigits, decimalAfter, digitsUpTo, number}
-use Rattle.reader.specs.Fields as Fields
+use Rattle.fields.specs.Numbers.{beginsWith, isDigit, allDigits, decimalAfter, digitsUpTo, number}
+use Rattle.fields.specs.Fields as Fields
 use Rattle.reader.specs.Text as Text
 use Rattle.reader.specs.Stamp.{readText}
 use Rattle.printer.specs.Text as Printed

@@ -6,10 +6,10 @@ use Prim.Native.Nat.{ℕ, suc, _^_, _<_, _≤_}
 use native.Mathlib.Omega.{arith}
 use lib.IntN.{ℤ, pos, negsuc, natAbs}
 use borrow.Author.Tests.{le-ltb}
-use Rattle.reader.specs.Numbers.{beginsWith}
-use Rattle.reader.specs.Fields.{isDelimiter}
+use Rattle.fields.specs.Numbers.{beginsWith}
+use Rattle.fields.specs.Fields.{isDelimiter}
 use Rattle.reader.specs.Text.{fromMonth, withoutSign, parsed}
-use Rattle.reader.specs.declared.fields.Delimiter.the-variants.{Hyphen, SpaceOrT, Colon}
+use Rattle.fields.specs.declared.delimited.Delimiter.the-variants.{Hyphen, SpaceOrT, Colon}
 use Rattle.reader.specs.declared.date_time.DateTime.{DateTime}
 use Rattle.reader.specs.declared.date_time.Parsed.the-variants.{Fields}
 use Rattle.printer.specs.declared.Stamp.{Stamp}

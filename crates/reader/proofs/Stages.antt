@@ -1,33 +1,22 @@
 -- The stages of a text, by what the code finds of a field.
 use mathlib.Core.Path.{_≡_, refl, sym, _∙_}
 use mathlib.Core.Logic.{_⊎_, ⊎-elim}
-use mathlib.Core.Bool.{Bool, true, false}
 use mathlib.Core.List.{List, [], _∷_}
 use Prim.Native.Nat.{ℕ}
 use native.Mathlib.Omega.{arith}
-use lib.Dec.{eqb}
 use lib.ListN.{drop}
-use borrow.Author.Tests.{eqb-true}
 use types.Run.{OneOf}
 use denote.Enum.Declared.{tagOf}
-use Rattle.errors.specs.declared.ParseDateTimeError.the-variants.{MissingField, InvalidFieldWidth}
-use Rattle.reader.specs.Fields.{unless, width, behind, twoDigits}
+use Rattle.errors.specs.declared.ParseDateTimeError.the-variants.{MissingField}
+use Rattle.fields.specs.Fields.{twoDigits}
+use Rattle.fields.specs.declared.delimited.Delimiter.{Delimiter}
+use Rattle.fields.specs.declared.delimited.Field.{Field}
+use Rattle.fields.specs.declared.delimited.Field.the-variants as Field
+use Rattle.fields.proofs.Behind.{behind-two}
+use Rattle.fields.proofs.delimited.Field.{the-type}
 use Rattle.reader.specs.Text.{onField, field}
-use Rattle.reader.specs.declared.fields.Delimiter.{Delimiter}
-use Rattle.reader.specs.declared.fields.Field.{Field}
-use Rattle.reader.specs.declared.fields.Field.the-variants as Field
 use Rattle.reader.specs.declared.date_time.Parsed.{Parsed}
 use Rattle.reader.specs.declared.date_time.Parsed.the-variants.{Refused}
-use Rattle.reader.proofs.fields.Field.{the-type}
-
-got-two : (n : ℕ) (f : Field) {v : ℕ} (b : Bool) → eqb n 2 ≡ b → unless b (Field.Refused InvalidFieldWidth) f ≡ Field.Got v → n ≡ 2
-got-two n f true e h = eqb-true n 2 e
-got-two n f false e h = cc
-
--- two bytes and a delimiter stand before the rest
-pub behind-two : (d : Delimiter) (s : List ℕ) {v : ℕ} → twoDigits d s ≡ Field.Got v → behind d s ≡ drop 3 s
-unfolding twoDigits
-behind-two d s h = rw (got-two (width d s) _ _ refl h)
 
 -- a field that is not read on (the last argument is what the `else` of a `let .. else` is told: the tag is one of the others)
 none : (f : Field) (next : ℕ → Parsed) → OneOf (1 ∷ 2 ∷ []) (tagOf the-type f) → onField f (λ v. Refused MissingField) ≡ onField f next

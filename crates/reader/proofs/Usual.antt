@@ -14,19 +14,20 @@ use lib.Seq.{drop-cons, drop-drop, getD-drop}
 use borrow.Author.Tests.{ne-eqb, le-leb, lt-ltb}
 use Rattle.calendar.proofs.Table.{below}
 use Rattle.counts.proofs.Checks.{both}
-use Rattle.reader.specs.Numbers.{beginsWith, isDigit, allDigits, decimalAfter, digitsUpTo, number}
-use Rattle.reader.specs.Fields.{isDelimiter, width, twoDigits, fraction, seconds}
-use Rattle.reader.specs.Usual.{usualShape, fitsByte, fits, isUsual, pairAt}
+use Rattle.fields.specs.Numbers.{beginsWith, isDigit, allDigits, pairAt, decimalAfter, digitsUpTo, number}
+use Rattle.fields.specs.Fields.{isDelimiter, width, twoDigits, fraction, seconds}
+use Rattle.fields.specs.declared.delimited.Delimiter.{Delimiter}
+use Rattle.fields.specs.declared.delimited.Delimiter.the-variants.{Hyphen, SpaceOrT, Colon, Point}
+use Rattle.fields.specs.declared.delimited.Field.the-variants as Field
+use Rattle.fields.specs.declared.delimited.Seconds.the-variants as Seconds
+use Rattle.fields.proofs.Digits.{Digit, is-digit}
+use Rattle.fields.proofs.Pairs.{other, pair-last, pair-got}
+use Rattle.fields.proofs.Behind.{behind-two}
+use Rattle.reader.specs.Usual.{usualShape, fitsByte, fits, isUsual}
 use Rattle.reader.specs.Text.{field, onSeconds, fromMonth, fromYear, withoutSign, parsed}
-use Rattle.reader.specs.declared.fields.Delimiter.{Delimiter}
-use Rattle.reader.specs.declared.fields.Delimiter.the-variants.{Hyphen, SpaceOrT, Colon, Point}
-use Rattle.reader.specs.declared.fields.Field.the-variants as Field
-use Rattle.reader.specs.declared.fields.Seconds.the-variants as Seconds
 use Rattle.reader.specs.declared.date_time.Parsed.{Parsed}
 use Rattle.reader.specs.declared.date_time.Parsed.the-variants.{Fields}
-use Rattle.reader.proofs.Digits.{Digit, is-digit}
-use Rattle.reader.proofs.Pairs.{other, pair-last, pair-got}
-use Rattle.reader.proofs.Stages.{behind-two, read-on}
+use Rattle.reader.proofs.Stages.{read-on}
 
 -- ---- what fits its place
 -- the code's tests for the bytes of the shape

@@ -10,18 +10,18 @@ use lib.ListN.{length, drop}
 use borrow.Author.Tests.{leb-true}
 use Rattle.errors.specs.declared.ParseDateTimeError.{ParseDateTimeError}
 use Rattle.errors.specs.declared.ParseDateTimeError.the-variants.{MissingField, InvalidFieldWidth, InvalidFieldValue}
+use Rattle.fields.specs.Numbers.{beginsWith, allDigits, decimal, digitsUpTo, number, onNumber}
+use Rattle.fields.specs.Fields.{unless, width, before, delimited, behind, twoDigits, seconds}
+use Rattle.fields.specs.declared.numbers.Number.{Number}
+use Rattle.fields.specs.declared.numbers.Number.the-variants.{Value, Bad}
+use Rattle.fields.specs.declared.delimited.Delimiter.{Delimiter}
+use Rattle.fields.specs.declared.delimited.Delimiter.the-variants.{Hyphen}
+use Rattle.fields.specs.declared.delimited.Field.{Field}
+use Rattle.fields.specs.declared.delimited.Field.the-variants as Field
+use Rattle.fields.specs.declared.delimited.Seconds.{Seconds}
+use Rattle.fields.specs.declared.delimited.Seconds.the-variants as Seconds
 use Rattle.reader.specs.declared.date_time.DateTime.{DateTime}
-use Rattle.reader.specs.Numbers.{beginsWith, allDigits, decimal, digitsUpTo, number, onNumber}
-use Rattle.reader.specs.Fields.{unless, width, before, delimited, behind, twoDigits, seconds}
 use Rattle.reader.specs.Text.{onField, field, onSeconds, fromMonth, withSign, fromYear, withoutSign, parsed}
-use Rattle.reader.specs.declared.numbers.Number.{Number}
-use Rattle.reader.specs.declared.numbers.Number.the-variants.{Value, Bad}
-use Rattle.reader.specs.declared.fields.Delimiter.{Delimiter}
-use Rattle.reader.specs.declared.fields.Delimiter.the-variants.{Hyphen}
-use Rattle.reader.specs.declared.fields.Field.{Field}
-use Rattle.reader.specs.declared.fields.Field.the-variants as Field
-use Rattle.reader.specs.declared.fields.Seconds.{Seconds}
-use Rattle.reader.specs.declared.fields.Seconds.the-variants as Seconds
 use Rattle.reader.specs.declared.date_time.Parsed.{Parsed}
 use Rattle.reader.specs.declared.date_time.Parsed.the-variants.{Fields, Refused}
 

@@ -1,5 +1,3 @@
-pub mod Numbers
-pub mod Fields
 pub mod Usual
 pub mod Text
 pub mod Stamp

@@ -6,14 +6,14 @@ use lib.Dec.{leb}
 use lib.IntN.{ℤ, pos, negℤ}
 use lib.ListN.{drop}
 use Rattle.errors.specs.declared.ParseDateTimeError.the-variants.{MissingField, InvalidFieldWidth, InvalidFieldValue}
-use Rattle.reader.specs.Numbers.{beginsWith, number, onNumber}
-use Rattle.reader.specs.Fields.{unless, width, before, delimited, behind, twoDigits, seconds}
-use Rattle.reader.specs.declared.fields.Delimiter.{Delimiter}
-use Rattle.reader.specs.declared.fields.Delimiter.the-variants.{Hyphen, SpaceOrT, Colon}
-use Rattle.reader.specs.declared.fields.Field.{Field}
-use Rattle.reader.specs.declared.fields.Field.the-variants as Field
-use Rattle.reader.specs.declared.fields.Seconds.{Seconds}
-use Rattle.reader.specs.declared.fields.Seconds.the-variants as Seconds
+use Rattle.fields.specs.Numbers.{beginsWith, number, onNumber}
+use Rattle.fields.specs.Fields.{unless, width, before, delimited, behind, twoDigits, seconds}
+use Rattle.fields.specs.declared.delimited.Delimiter.{Delimiter}
+use Rattle.fields.specs.declared.delimited.Delimiter.the-variants.{Hyphen, SpaceOrT, Colon}
+use Rattle.fields.specs.declared.delimited.Field.{Field}
+use Rattle.fields.specs.declared.delimited.Field.the-variants as Field
+use Rattle.fields.specs.declared.delimited.Seconds.{Seconds}
+use Rattle.fields.specs.declared.delimited.Seconds.the-variants as Seconds
 use Rattle.reader.specs.declared.date_time.Parsed.{Parsed}
 use Rattle.reader.specs.declared.date_time.Parsed.the-variants.{Fields, Refused}
 

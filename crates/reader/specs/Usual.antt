@@ -1,12 +1,12 @@
 -- The usual shape of a text, `0000-00-00 00:00:00` and what may follow: most texts have it, and each field has its place there.
 use mathlib.Core.Bool.{Bool, true, false, cond, _&&_, _||_}
 use mathlib.Core.List.{List, [], _∷_}
-use Prim.Native.Nat.{ℕ, _+_, _-_, _*_}
+use Prim.Native.Nat.{ℕ}
 use lib.Dec.{eqb}
 use lib.ListN.{length, getD}
-use Rattle.reader.specs.Numbers.{isDigit}
-use Rattle.reader.specs.Fields.{isDelimiter}
-use Rattle.reader.specs.declared.fields.Delimiter.the-variants.{SpaceOrT, Point}
+use Rattle.fields.specs.Numbers.{isDigit}
+use Rattle.fields.specs.Fields.{isDelimiter}
+use Rattle.fields.specs.declared.delimited.Delimiter.the-variants.{SpaceOrT, Point}
 
 -- `0000-00-00 00:00:00`
 unfoldable pub usualShape : List ℕ
@@ -26,7 +26,3 @@ fits (b ∷ shape) (x ∷ s) = fitsByte b x && fits shape s
 -- a text of the usual shape: behind the seconds it ends, or a point follows
 unfoldable pub isUsual : List ℕ → Bool
 isUsual s = fits usualShape s && (eqb (length s) 19 || isDelimiter Point (getD s 19 0))
-
--- the number of two digits at a place
-unfoldable pub pairAt : List ℕ → ℕ → ℕ
-pairAt s at = (getD s at 0 - 48) * 10 + (getD s (at + 1) 0 - 48)

@@ -1,12 +1,12 @@
 // The whole text, stage by stage.
-use crate::bytes;
-use crate::fields;
-use crate::fields::Delimiter;
-use crate::fields::Field;
-use crate::fields::Seconds;
-use crate::numbers;
-use crate::numbers::Number;
 use errors::ParseDateTimeError;
+use fields::bytes;
+use fields::delimited;
+use fields::delimited::Delimiter;
+use fields::delimited::Field;
+use fields::delimited::Seconds;
+use fields::numbers;
+use fields::numbers::Number;
 ghost use mathlib.Core.Path.{_≡_};
 ghost use mathlib.Core.Bool.{true};
 ghost use Prim.Native.Nat.{ℕ, _^_, _≤_, _<_};
@@ -83,22 +83,22 @@ fn with_seconds(year: i64, month: u8, day: u8, hour: u8, min: u8, seconds: Secon
 fn parse_from_month(year: i64, text: &[u8]) -> Parsed
     ensures { λ r. ⌜ r ≡ fromMonth year (now (text .entry)) ⌝ }
 {
-    let f = fields::pull_two_digits(text, Delimiter::Hyphen);
+    let f = delimited::pull_two_digits(text, Delimiter::Hyphen);
     let Field::Got(month) = f else {
         return stop(f);
     };
     let text = bytes::skip(text, 3);
-    let f = fields::pull_two_digits(text, Delimiter::SpaceOrT);
+    let f = delimited::pull_two_digits(text, Delimiter::SpaceOrT);
     let Field::Got(day) = f else {
         return stop(f);
     };
     let text = bytes::skip(text, 3);
-    let f = fields::pull_two_digits(text, Delimiter::Colon);
+    let f = delimited::pull_two_digits(text, Delimiter::Colon);
     let Field::Got(hour) = f else {
         return stop(f);
     };
     let text = bytes::skip(text, 3);
-    let f = fields::pull_two_digits(text, Delimiter::Colon);
+    let f = delimited::pull_two_digits(text, Delimiter::Colon);
     let Field::Got(min) = f else {
         return stop(f);
     };
@@ -108,7 +108,7 @@ fn parse_from_month(year: i64, text: &[u8]) -> Parsed
         day,
         hour,
         min,
-        fields::pull_seconds(bytes::skip(text, 3)),
+        delimited::pull_seconds(bytes::skip(text, 3)),
     )
 }
 
@@ -117,13 +117,13 @@ fn fits_place(place: usize, byte: u8) -> bool
     ensures { λ r. ⌜ r ≡ fitsByte (getD usualShape place 48) byte ⌝ }
 {
     if place == 4 || place == 7 {
-        return fields::is_delimiter(Delimiter::Hyphen, byte);
+        return delimited::is_delimiter(Delimiter::Hyphen, byte);
     }
     if place == 10 {
-        return fields::is_delimiter(Delimiter::SpaceOrT, byte);
+        return delimited::is_delimiter(Delimiter::SpaceOrT, byte);
     }
     if place == 13 || place == 16 {
-        return fields::is_delimiter(Delimiter::Colon, byte);
+        return delimited::is_delimiter(Delimiter::Colon, byte);
     }
     numbers::is_digit(byte)
 }
@@ -167,7 +167,7 @@ fn parse_usual(text: &[u8]) -> Parsed
         day,
         hour,
         min,
-        fields::pull_fraction(sec, bytes::skip(text, 20)),
+        delimited::pull_fraction(sec, bytes::skip(text, 20)),
     )
 }
 
@@ -181,7 +181,7 @@ pub fn parse_date_time(text: &[u8], limit: u64) -> Parsed
     }
     let negative = bytes::begins_with(text, b'-');
     let text = skip_sign(text);
-    let n = fields::find(text, Delimiter::Hyphen);
+    let n = delimited::find(text, Delimiter::Hyphen);
     if text.len() <= n {
         return Parsed::Refused(ParseDateTimeError::MissingField);
     }

@@ -1,8 +1,5 @@
 // Reading a timestamp's text.
-pub mod bytes; // the front of a text
 pub mod date_time; // the whole text, stage by stage
-pub mod fields; // a field, up to its delimiter
-pub mod numbers; // the number in a field
 pub mod stamp; // the timestamp
 
 pub use date_time::DateTime;

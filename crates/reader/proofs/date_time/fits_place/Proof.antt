@@ -5,7 +5,7 @@ use mathlib.Core.Bool.{true, _||_}
 use lib.Dec.{eqb}
 use borrow.Author.Tests.{eq-eqb, ne-eqb}
 use borrow.Author.Needs.{needs}
-use Rattle.reader.specs.Fields.{isDelimiter}
+use Rattle.fields.specs.Fields.{isDelimiter}
 use Rattle.reader.specs.Usual.{fitsByte}
 use Rattle.reader.proofs.Usual.{shape-at}
 use Rattle.reader.proofs.date_time.fits_place.Statement.{statement}

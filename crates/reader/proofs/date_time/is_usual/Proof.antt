@@ -6,7 +6,7 @@ use native.Mathlib.Omega.{arith}
 use lib.ListN.{drop}
 use borrow.Author.Tests.{eq-eqb, ne-eqb, not-true, not-false}
 use borrow.Author.Needs.{needs}
-use Rattle.reader.specs.Fields.{isDelimiter}
+use Rattle.fields.specs.Fields.{isDelimiter}
 use Rattle.reader.specs.Usual.{usualShape, fits, isUsual}
 use Rattle.reader.proofs.Usual.{fits-step, fits-long}
 use Rattle.reader.proofs.date_time.is_usual.Statement.{statement}

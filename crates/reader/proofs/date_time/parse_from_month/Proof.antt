@@ -6,9 +6,9 @@ use mir.Syntax.{w64}
 use mir.Facts.{toZ-ofZ}
 use mir.Val.{toZ, ofZ}
 use borrow.Author.Needs.{needs}
+use Rattle.fields.specs.declared.delimited.Delimiter.the-variants.{Hyphen, SpaceOrT, Colon}
 use Rattle.reader.specs.Text.{field, fromMonth}
 use Rattle.reader.specs.declared.date_time.Parsed.{Parsed}
-use Rattle.reader.specs.declared.fields.Delimiter.the-variants.{Hyphen, SpaceOrT, Colon}
 use Rattle.reader.proofs.Stages.{read-on, stopped}
 use Rattle.reader.proofs.date_time.parse_from_month.Statement.{statement}
 use Rattle.reader.proofs.date_time.parse_from_month.Tie as tie

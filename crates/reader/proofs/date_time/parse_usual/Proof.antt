@@ -8,8 +8,9 @@ use mir.Syntax.{w64}
 use mir.Val.{toZ, ofZ}
 use borrow.Author.Needs.{needs}
 use Rattle.integers.proofs.Machine.{signed, known}
-use Rattle.reader.specs.Fields.{seconds}
-use Rattle.reader.specs.Usual.{usualShape, fitsByte, pairAt}
+use Rattle.fields.specs.Fields.{seconds}
+use Rattle.fields.specs.Numbers.{pairAt}
+use Rattle.reader.specs.Usual.{usualShape, fitsByte}
 use Rattle.reader.specs.Text.{onSeconds, parsed}
 use Rattle.reader.specs.declared.date_time.Parsed.the-variants.{Fields}
 use Rattle.reader.proofs.Usual.{two-at, usual-parsed, seconds-last, seconds-more}

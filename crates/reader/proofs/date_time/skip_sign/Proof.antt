@@ -3,7 +3,7 @@ use mathlib.Core.Path.{_≡_}
 use mathlib.Core.Bool.{true, _||_}
 use mathlib.Core.Logic.{⊎-elim}
 use borrow.Author.Needs.{needs}
-use Rattle.reader.specs.Numbers.{beginsWith}
+use Rattle.fields.specs.Numbers.{beginsWith}
 use Rattle.reader.specs.Text.{withoutSign}
 use Rattle.reader.proofs.date_time.skip_sign.Statement.{statement}
 use Rattle.reader.proofs.date_time.skip_sign.Tie as tie

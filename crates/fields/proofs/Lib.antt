@@ -1,0 +1,5 @@
+pub mod Digits
+pub mod Tenths
+pub mod Widths
+pub mod Pairs
+pub mod Behind
