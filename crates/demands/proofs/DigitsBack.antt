@@ -11,8 +11,8 @@ use borrow.Author.Tests.{le-leb, lt-ltb, ne-eqb, leb-true}
 use Rattle.fields.specs.Numbers.{beginsWith, isDigit, allDigits, decimalAfter, decimal, digitsUpTo, number}
 use Rattle.fields.specs.declared.numbers.Number.the-variants.{Value}
 use Rattle.counts.proofs.Checks.{both}
-use Rattle.printer.specs.Text.{digits}
-use Rattle.printer.proofs.Decimal.{digits-length}
+use Rattle.digits.specs.Digits.{digits}
+use Rattle.digits.proofs.Decimal.{digits-length}
 
 decimal-append : (n : ℕ) (a b : List ℕ) → decimalAfter n (a ++ b) ≡ decimalAfter (decimalAfter n a) b
 unfolding decimalAfter

@@ -17,8 +17,9 @@ use Rattle.fields.specs.declared.delimited.Seconds.the-variants as Seconds
 use Rattle.reader.specs.declared.date_time.Parsed.{Parsed}
 use Rattle.counts.proofs.Checks.{both}
 use Rattle.fields.proofs.Tenths.{good-fraction}
-use Rattle.printer.specs.Text.{digits, pointed}
-use Rattle.printer.proofs.Decimal.{digits-length}
+use Rattle.digits.specs.Digits.{digits}
+use Rattle.digits.proofs.Decimal.{digits-length}
+use Rattle.printer.specs.Text.{pointed}
 use Rattle.demands.proofs.DigitsBack.{all-digits, digit-low, digit-high, number-digits, begins-not}
 
 -- no digit is a delimiter

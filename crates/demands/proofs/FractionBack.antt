@@ -12,8 +12,9 @@ use Rattle.fields.specs.Numbers.{isDigit, allDigits}
 use Rattle.fields.specs.Fields.{nanoseconds}
 use Rattle.counts.proofs.Checks.{both}
 use Rattle.fields.proofs.Tenths.{weighed, weighed-nanoseconds}
-use Rattle.printer.specs.Text.{digits, unlessLast, trim}
-use Rattle.printer.proofs.Decimal.{digits-length}
+use Rattle.digits.specs.Digits.{digits}
+use Rattle.digits.proofs.Decimal.{digits-length}
+use Rattle.printer.specs.Text.{unlessLast, trim}
 use Rattle.demands.proofs.DigitsBack.{all-digits}
 
 -- a digit behind others weighs what is left of the first one's weight

@@ -17,6 +17,7 @@ use Rattle.fields.specs.Numbers.{beginsWith, isDigit, allDigits, decimalAfter, 
 use Rattle.fields.specs.Fields as Fields
 use Rattle.reader.specs.Text as Text
 use Rattle.reader.specs.Stamp.{readText}
+use Rattle.digits.specs.Digits as Digits
 use Rattle.printer.specs.Text as Printed
 use Rattle.errors.specs.Refusals.{Refusal, Outcome, gives, refuses, refusesInRangeError}
 use Rattle.calendar.specs.declared.Moment.{Moment}
@@ -144,5 +145,5 @@ all-hold (r ∷ rows) t = let b = and-yes (passes r) (allPass rows) t in (holds 
 
 -- EVERY ROW PASSES, as the prover computes it
 pub all-pass : T (allPass readings)
-unfolding isI64 floorDiv floorMod divides isLeap monthRow monthLength leapYears yearStart sumTo dayOfYear dayNumber secondOfDay secondsOf dateTimeSecs fromDateTime exact timeAt added beginsWith isDigit allDigits decimalAfter digitsUpTo number Fields.isDelimiter Fields.width Fields.twoDigits Fields.nanoseconds Fields.fraction Fields.seconds Text.field Text.fromMonth Text.fromYear Text.withoutSign Text.parsed readText Printed.digits Printed.widthFrom Printed.width Printed.yearText Printed.fieldsText Printed.trim Printed.fractionText Printed.text
+unfolding isI64 floorDiv floorMod divides isLeap monthRow monthLength leapYears yearStart sumTo dayOfYear dayNumber secondOfDay secondsOf dateTimeSecs fromDateTime exact timeAt added beginsWith isDigit allDigits decimalAfter digitsUpTo number Fields.isDelimiter Fields.width Fields.twoDigits Fields.nanoseconds Fields.fraction Fields.seconds Text.field Text.fromMonth Text.fromYear Text.withoutSign Text.parsed readText Digits.digits Digits.widthFrom Digits.width Printed.yearText Printed.fieldsText Printed.trim Printed.fractionText Printed.text
 all-pass = tt

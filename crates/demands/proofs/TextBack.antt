@@ -14,8 +14,9 @@ use Rattle.reader.specs.declared.date_time.DateTime.{DateTime}
 use Rattle.reader.specs.declared.date_time.Parsed.the-variants.{Fields}
 use Rattle.printer.specs.declared.Stamp.{Stamp}
 use Rattle.printer.specs.declared.Precision.the-variants.{Default}
-use Rattle.printer.specs.Text.{digits, width, yearText, fieldsText, trim, pointed, fractionText, text}
-use Rattle.printer.proofs.Width.{width-least}
+use Rattle.digits.specs.Digits.{digits, width}
+use Rattle.digits.proofs.Width.{width-least}
+use Rattle.printer.specs.Text.{yearText, fieldsText, trim, pointed, fractionText, text}
 use Rattle.demands.proofs.FractionBack.{nanoseconds-trim, trim-digits}
 use Rattle.demands.proofs.FieldsBack.{field-back, seconds-back, year-back, no-sign, no-minus}
 

@@ -10,8 +10,9 @@ use lib.Dec.{ltb}
 use lib.ListN.{length, take, length-append}
 use lib.Seq.{take-append-le, take-all}
 use borrow.Author.Tests.{ne-eqb, lt-ltb}
-use Rattle.printer.specs.Text.{point, digits, unlessLast, trim, pointed}
-use Rattle.printer.proofs.Decimal.{digits-length}
+use Rattle.digits.specs.Digits.{digits}
+use Rattle.digits.proofs.Decimal.{digits-length}
+use Rattle.printer.specs.Text.{point, unlessLast, trim, pointed}
 
 trim-zero : (a : List ℕ) → trim (a ++ (48 ∷ [])) ≡ trim a
 unfolding trim

@@ -10,15 +10,16 @@ use lib.IntN.{ℤ, pos, natAbs}
 use lib.ListN.{length, take, length-append, length-take}
 use lib.Seq.{sets}
 use lib.Signed.{ltZ}
+use Rattle.digits.specs.Digits.{digits, width, field}
+use Rattle.digits.proofs.Stores.{sets-append}
+use Rattle.digits.proofs.Decimal.{digits-length}
+use Rattle.digits.proofs.Width.{width-le}
 use Rattle.printer.specs.declared.Stamp.{Stamp}
 use Rattle.printer.specs.declared.Precision.{Precision}
 use Rattle.printer.specs.declared.Precision.the-variants.{Default, Digits}
 use Rattle.printer.specs.declared.parts.Part.{Part}
-use Rattle.printer.specs.Text.{dash, space, colon, point, digits, width, field, yearText, fieldsText, unlessLast, trim, pointed, fractionText, text, Ranged}
+use Rattle.printer.specs.Text.{dash, space, colon, point, yearText, fieldsText, unlessLast, trim, pointed, fractionText, text, Ranged}
 use Rattle.printer.specs.Parts.{PartOf, partText}
-use Rattle.printer.proofs.Stores.{sets-append}
-use Rattle.printer.proofs.Decimal.{digits-length}
-use Rattle.printer.proofs.Width.{width-le}
 
 pub fields-length : (t : Stamp) → length (fieldsText t) ≡ 15
 unfolding fieldsText digits

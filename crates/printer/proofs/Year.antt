@@ -5,9 +5,10 @@ use Prim.Native.Nat.{ℕ, _^_, _<_}
 use native.Mathlib.Omega.{arith}
 use lib.IntN.{ℤ, pos, natAbs}
 use lib.Signed.{ltZ}
-use Rattle.printer.specs.Text.{dash, width, yearText}
+use Rattle.digits.specs.Digits.{width}
+use Rattle.digits.proofs.Width.{width-le}
+use Rattle.printer.specs.Text.{dash, yearText}
 use Rattle.printer.specs.Parts.{PartOf, partText}
-use Rattle.printer.proofs.Width.{width-le}
 
 pub year-part : {b : Bool} {w n : ℕ} (y : ℤ) → ltZ y (pos 0) ≡ b → natAbs y ≡ n → w ≡ width n → n < 10 ^ 12
     → PartOf dash (yearText y) (record { marked = b; width = w; value = n })

@@ -1,11 +1,12 @@
 -- The text of a stamp: document 01, "How a stamp is written". A byte is a number, and that of `0` is 48.
 use mathlib.Core.Bool.{cond}
 use mathlib.Core.List.{List, [], _∷_, _++_}
-use Prim.Native.Nat.{ℕ, zero, suc, _+_, _/_, _%_, _^_, _<_}
-use lib.Dec.{ltb, eqb}
+use Prim.Native.Nat.{ℕ, _^_, _<_}
+use lib.Dec.{eqb}
 use lib.IntN.{ℤ, pos, natAbs}
 use lib.ListN.{take}
 use lib.Signed.{ltZ}
+use Rattle.digits.specs.Digits.{digits, width, field}
 use Rattle.printer.specs.declared.Stamp.{Stamp}
 use Rattle.printer.specs.declared.Precision.{Precision}
 use Rattle.printer.specs.declared.Precision.the-variants.{Default, Digits}
@@ -23,27 +24,9 @@ colon = 58
 abbrev pub point : ℕ
 point = 46
 
--- the last w decimal digits of n
-unfoldable pub digits : ℕ → ℕ → List ℕ
-digits zero n = []
-digits (suc w) n = digits w (n / 10) ++ ((48 + n % 10) ∷ [])
-
--- the least width from w to w + k that has room for n
-unfoldable pub widthFrom : ℕ → ℕ → ℕ → ℕ
-widthFrom zero w n = w
-widthFrom (suc k) w n = cond (ltb n (10 ^ w)) w (widthFrom k (suc w) n)
-
--- how many digits a year's size is written in: at least four (and up to 20, which is more than an i64 takes)
-unfoldable pub width : ℕ → ℕ
-width n = widthFrom 16 4 n
-
 -- a year: `-` if it is below 0, and its size in at least four digits
 unfoldable pub yearText : ℤ → List ℕ
 yearText y = cond (ltZ y (pos 0)) (dash ∷ []) [] ++ digits (width (natAbs y)) (natAbs y)
-
--- a separator, and a number in two digits
-abbrev pub field : ℕ → ℕ → List ℕ
-field separator n = separator ∷ digits 2 n
 
 -- `-MM-DD hh:mm:ss`
 unfoldable pub fieldsText : Stamp → List ℕ

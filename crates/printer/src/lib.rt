@@ -1,5 +1,4 @@
 // Writing a stamp into a lent line.
-mod digits;
 mod parts;
 
 use calendar::secs_to_date_time;

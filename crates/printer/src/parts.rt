@@ -1,13 +1,14 @@
 // The two parts of a text that vary in length, the year and the fraction: worked out before they are written.
 use super::Precision;
-use super::digits::put_number;
-use super::digits::split_last_digit;
+use digits::put_number;
+use digits::split_last_digit;
 ghost use mathlib.Core.Path.{_≡_};
 ghost use Prim.Native.Nat.{ℕ, _+_, _^_, _≤_, _<_};
 ghost use lib.IntN.{natAbs};
 ghost use lib.ListN.{length};
 ghost use lib.Seq.{sets};
-ghost use Rattle.printer.specs.Text.{dash, point, digits, width, yearText, pointed, fractionText};
+ghost use Rattle.digits.specs.Digits.{digits, width};
+ghost use Rattle.printer.specs.Text.{dash, point, yearText, pointed, fractionText};
 ghost use Rattle.printer.specs.Parts.{Bounded, PartOf, partText};
 
 // The last `width` digits of `value`, behind a mark or none: `-` of a year, `.` of a fraction.

@@ -4,7 +4,8 @@ use Prim.Native.Nat.{_≤_, _<_, _^_}
 use native.Mathlib.Omega.{arith}
 use lib.ListN.{take}
 use borrow.Author.Needs.{needs}
-use Rattle.printer.specs.Text.{digits, fractionText}
+use Rattle.digits.specs.Digits.{digits}
+use Rattle.printer.specs.Text.{fractionText}
 use Rattle.printer.proofs.Fraction.{take-down, take-stop}
 use Rattle.printer.proofs.parts.cut.Statement.{statement}
 use Rattle.printer.proofs.parts.cut.Tie as tie

@@ -4,7 +4,8 @@ use mathlib.Core.Path.{_≡_, ap, _∙_}
 use Prim.Native.Nat.{ℕ, _*_, _/_, _%_, _≤_, _<_, _^_}
 use native.Mathlib.Omega.{arith}
 use borrow.Author.Needs.{needs}
-use Rattle.printer.specs.Text.{digits, trim, fractionText}
+use Rattle.digits.specs.Digits.{digits}
+use Rattle.printer.specs.Text.{trim, fractionText}
 use Rattle.printer.proofs.Fraction.{trim-down, trim-zeros, trim-stop}
 use Rattle.printer.proofs.parts.trimmed.Statement.{statement}
 use Rattle.printer.proofs.parts.trimmed.Tie as tie

@@ -4,8 +4,8 @@ use Prim.Native.Nat.{_≤_, _<_, _+_, _-_, _*_, _^_}
 use native.Mathlib.Omega.{arith}
 use native.Mathlib.Nat.{pow-suc}
 use native.Mathlib.Numerals.{add-one}
-use Rattle.printer.specs.Text.{widthFrom, width}
-use Rattle.printer.proofs.Width.{here, more, power-lt}
+use Rattle.digits.specs.Digits.{widthFrom, width}
+use Rattle.digits.proofs.Width.{here, more, power-lt}
 use Rattle.printer.proofs.parts.width_of.Statement.{statement}
 use Rattle.printer.proofs.parts.width_of.Tie as tie
 

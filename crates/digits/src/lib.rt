@@ -3,15 +3,15 @@ ghost use mathlib.Core.Path.{_≡_};
 ghost use Prim.Native.Nat.{_+_, _/_, _%_, _^_, _≤_, _<_};
 ghost use lib.ListN.{length};
 ghost use lib.Seq.{sets};
-ghost use Rattle.printer.specs.Text.{digits, field};
+ghost use Rattle.digits.specs.Digits.{digits, field};
 
-pub(crate) struct Split {
+pub struct Split {
     pub rest: u32,
     pub digit: u8,
 }
 
 // Where a digit comes off a number.
-pub(crate) fn split_last_digit(n: u32) -> Split
+pub fn split_last_digit(n: u32) -> Split
     requires { ⌜ n < 2 ^ 30 ⌝ }
     ensures { λ r. ⌜ (r .rest ≡ n / 10) × (r .digit ≡ n % 10) ⌝ }
 {
@@ -68,7 +68,7 @@ pub(crate) fn put_digits(s: &mut [u8], at: usize, width: usize, n: u32)
 }
 
 // The same of a larger number: its last nine digits, and those before them.
-pub(crate) fn put_number(s: &mut [u8], at: usize, width: usize, n: u64)
+pub fn put_number(s: &mut [u8], at: usize, width: usize, n: u64)
     requires { ⌜ (at + width ≤ length (now s)) × (n < 10 ^ 18) ⌝ }
     ensures { λ _. ⌜ now (s .exit) ≡ sets (now (s .entry)) at (digits width n) ⌝ }
 {
@@ -96,7 +96,7 @@ pub(crate) fn put_number(s: &mut [u8], at: usize, width: usize, n: u64)
 }
 
 // A separator and two digits, from at on.
-pub(crate) fn put_field(s: &mut [u8], at: usize, separator: u8, n: u8)
+pub fn put_field(s: &mut [u8], at: usize, separator: u8, n: u8)
     requires { ⌜ at + 3 ≤ length (now s) ⌝ }
     ensures { λ _. ⌜ now (s .exit) ≡ sets (now (s .entry)) at (field separator n) ⌝ }
 {

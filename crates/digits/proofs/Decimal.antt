@@ -8,8 +8,8 @@ use native.Mathlib.Omega.{arith}
 use lib.Pow.{pow-add}
 use lib.ListN.{length, set, length-append}
 use lib.Seq.{sets}
-use Rattle.printer.specs.Text.{digits}
-use Rattle.printer.proofs.Stores.{sets-append, sets-set, sets-sets}
+use Rattle.digits.specs.Digits.{digits}
+use Rattle.digits.proofs.Stores.{sets-append, sets-set, sets-sets}
 
 pub digits-length : (w n : ℕ) → length (digits w n) ≡ w
 unfolding digits

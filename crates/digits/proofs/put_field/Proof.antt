@@ -1,11 +1,11 @@
--- `printer::digits::put_field`.
+-- `digits::put_field`.
 use mathlib.Core.Path.{_∙_}
 use native.Mathlib.Numerals.{add-one}
 use native.Mathlib.Omega.{arith}
 use lib.ListN.{length-set}
 use borrow.Author.Needs.{needs}
-use Rattle.printer.proofs.digits.put_field.Statement.{statement}
-use Rattle.printer.proofs.digits.put_field.Tie as tie
+use Rattle.digits.proofs.put_field.Statement.{statement}
+use Rattle.digits.proofs.put_field.Tie as tie
 
 slice-write-s : tie.Need-slice-write-s
 slice-write-s c = search needs

@@ -1,7 +1,7 @@
--- `printer::digits::split_last_digit`.
+-- `digits::split_last_digit`.
 use borrow.Author.Needs.{needs}
-use Rattle.printer.proofs.digits.split_last_digit.Statement.{statement}
-use Rattle.printer.proofs.digits.split_last_digit.Tie as tie
+use Rattle.digits.proofs.split_last_digit.Statement.{statement}
+use Rattle.digits.proofs.split_last_digit.Tie as tie
 
 cast-digit : tie.Need-cast-digit
 cast-digit c = search needs

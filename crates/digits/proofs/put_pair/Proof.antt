@@ -1,14 +1,14 @@
--- `printer::digits::put_pair`: the two bytes are the two digits (`pair-first`, `pair-second`).
+-- `digits::put_pair`: the two bytes are the two digits (`pair-first`, `pair-second`).
 use mathlib.Core.Path.{_≡_}
 use Prim.Native.Nat.{suc, _/_}
 use native.Mathlib.Numerals.{add-one}
 use native.Mathlib.Omega.{arith}
 use lib.ListN.{set, length-set}
 use borrow.Author.Needs.{needs}
-use Rattle.printer.specs.Text.{digits}
-use Rattle.printer.proofs.Decimal.{pair-first, pair-second}
-use Rattle.printer.proofs.digits.put_pair.Statement.{statement}
-use Rattle.printer.proofs.digits.put_pair.Tie as tie
+use Rattle.digits.specs.Digits.{digits}
+use Rattle.digits.proofs.Decimal.{pair-first, pair-second}
+use Rattle.digits.proofs.put_pair.Statement.{statement}
+use Rattle.digits.proofs.put_pair.Tie as tie
 
 split-last-digit-requires : tie.Need-split-last-digit-requires
 split-last-digit-requires c κs = search needs

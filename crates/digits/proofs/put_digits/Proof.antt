@@ -1,14 +1,14 @@
--- `printer::digits::put_digits`: what is still to be stored is the digits of what is left of n.
+-- `digits::put_digits`: what is still to be stored is the digits of what is left of n.
 use mathlib.Core.Path.{_≡_, sym, _∙_}
 use Prim.Native.Nat.{_≤_, _<_, _^_}
 use native.Mathlib.Omega.{arith}
 use lib.ListN.{length, length-set}
 use lib.Seq.{sets}
 use borrow.Author.Needs.{needs}
-use Rattle.printer.specs.Text.{digits}
-use Rattle.printer.proofs.Decimal.{last-run-first}
-use Rattle.printer.proofs.digits.put_digits.Statement.{statement}
-use Rattle.printer.proofs.digits.put_digits.Tie as tie
+use Rattle.digits.specs.Digits.{digits}
+use Rattle.digits.proofs.Decimal.{last-run-first}
+use Rattle.digits.proofs.put_digits.Statement.{statement}
+use Rattle.digits.proofs.put_digits.Tie as tie
 
 abbrev Inv-loop : tie.InvT-loop
 Inv-loop s₀ at width n left₀ m₀ s left m = (left ≤ width) × (m < 2 ^ 30) × (length s ≡ length s₀) × (sets s₀ at (digits width n) ≡ sets s at (digits left m))

@@ -8,7 +8,7 @@ use native.Mathlib.Numerals.{sub-one, add-one}
 use native.Mathlib.Omega.{arith}
 use lib.Dec.{ltb, lit<}
 use borrow.Author.Tests.{lt-ltb, le-ltb, ltb-true, ltb-false}
-use Rattle.printer.specs.Text.{widthFrom, width}
+use Rattle.digits.specs.Digits.{widthFrom, width}
 
 pub here : (k w n : ℕ) → n < 10 ^ w → widthFrom k w n ≡ w
 unfolding widthFrom

@@ -1,11 +1,11 @@
--- `printer::digits::put_number`: the last nine digits are those of the remainder by 10^9 (`digits-low`, `digits-split`).
+-- `digits::put_number`: the last nine digits are those of the remainder by 10^9 (`digits-low`, `digits-split`).
 use mathlib.Core.Path.{_∙_}
 use native.Mathlib.Omega.{arith}
 use borrow.Author.Needs.{needs}
-use Rattle.printer.proofs.Stores.{sets-append}
-use Rattle.printer.proofs.Decimal.{digits-length, digits-low, digits-split}
-use Rattle.printer.proofs.digits.put_number.Statement.{statement}
-use Rattle.printer.proofs.digits.put_number.Tie as tie
+use Rattle.digits.proofs.Stores.{sets-append}
+use Rattle.digits.proofs.Decimal.{digits-length, digits-low, digits-split}
+use Rattle.digits.proofs.put_number.Statement.{statement}
+use Rattle.digits.proofs.put_number.Tie as tie
 
 cast-put-digits : tie.Need-cast-put-digits
 cast-put-digits c = search needs
