@@ -7,8 +7,8 @@ use native.Mathlib.Omega.{arith}
 use lib.Dec.{ltb}
 use lib.ListN.{length, drop, length-append, length-drop}
 use borrow.Author.Tests.{lt-ltb, le-ltb}
-use Rattle.desk.specs.Requests.{requestOf}
-use Rattle.desk.specs.Answers.{malformed, answerText, answered}
+use Rattle.answers.specs.Answers.{malformed}
+use Rattle.desk.specs.Answers.{answerText, answered}
 
 pub answered-front : (s out : List ℕ) → length s + 128 ≤ length out
     → answered s out ≡ (length (answerText s ++ (10 ∷ [])), (answerText s ++ (10 ∷ [])) ++ drop (length (answerText s ++ (10 ∷ []))) out)
@@ -20,7 +20,7 @@ unfolding answered
 answered-none s out h = rw (lt-ltb (length out) (length s + 128) h)
 
 pub answer-too-long : (s : List ℕ) → 65535 < length s → answerText s ≡ malformed
-unfolding answerText requestOf
+unfolding answerText
 answer-too-long s h = rw (lt-ltb 65535 (length s) h)
 
 -- what is written has room, since lent bytes stay as many as they are

@@ -21,9 +21,9 @@ use Rattle.printer.specs.Line.{answer, lineAfter}
 use Rattle.printer.specs.Display.{stamp, timeText, displayed}
 use Rattle.printer.proofs.Line.{room}
 use Rattle.printer.proofs.Text.{text-bound}
-use Rattle.desk.specs.Words.{bytes}
-use Rattle.desk.specs.Texts.{Put}
-use Rattle.desk.specs.Answers.{refusalText, line}
+use Rattle.words.specs.Words.{bytes}
+use Rattle.texts.specs.Texts.{Put}
+use Rattle.answers.specs.Answers.{refusalText, line}
 
 -- a store before a run may come first
 sets-before : (l : List ℕ) (i : ℕ) (a : List ℕ) (j d : ℕ) → j < i → set (sets l i a) j d ≡ sets (set l j d) i a
@@ -56,7 +56,7 @@ module _ (secs : ℤ) (nanos : ℕ) (epoch : ℤ) (p : Precision) (s : List ℕ)
 
     pub printed : {n : ℕ} {l m : List ℕ} {r : ℕ} → _≡_ {A = Outcome ℕ × List ℕ} (gives n, l) (displayed secs nanos epoch p s 3) → Put l 0 (bytes "ok ") m r
         → Put s 0 (line (λ t. t) (goodNanos nanos (gives (timeText secs nanos epoch p)))) m (3 + n) × (3 + n < 128)
-    unfolding displayed line said
+    unfolding displayed said
     printed {n} {l} {m} e a = go (ltb nanos 1000000000) refl e
       where
         go : (b : Bool) → ltb nanos 1000000000 ≡ b → _≡_ {A = Outcome ℕ × List ℕ} (gives n, l) (cond b (answer s 3 said, lineAfter s 3 said) (refuses (refusal 11 []), s))
@@ -74,12 +74,12 @@ module _ (secs : ℤ) (nanos : ℕ) (epoch : ℤ) (p : Precision) (s : List ℕ)
             absurd (omega arith)
 
     pub refused : {r : Refusal} {l : List ℕ} → _≡_ {A = Outcome ℕ × List ℕ} (refuses r, l) (displayed secs nanos epoch p s 3)
-        → (l ≡ s) × (refusalText [] r ≡ line (λ t. t) (goodNanos nanos (gives (timeText secs nanos epoch p))))
-    unfolding displayed line said
+        → (l ≡ s) × (refusalText false r ≡ line (λ t. t) (goodNanos nanos (gives (timeText secs nanos epoch p))))
+    unfolding displayed said
     refused {r} {l} e = go (ltb nanos 1000000000) refl e
       where
         go : (b : Bool) → ltb nanos 1000000000 ≡ b → _≡_ {A = Outcome ℕ × List ℕ} (refuses r, l) (cond b (answer s 3 said, lineAfter s 3 said) (refuses (refusal 11 []), s))
-            → (l ≡ s) × (refusalText [] r ≡ line (λ t. t) (cond b (gives said) (refuses (refusal 11 []))))
+            → (l ≡ s) × (refusalText false r ≡ line (λ t. t) (cond b (gives said) (refuses (refusal 11 []))))
         go true h q =
             let k : _≡_ {A = Outcome ℕ} (refuses r) (gives (length said)) = ap (λ (x : Outcome ℕ × List ℕ). x .0) q ∙ shown (ltb-true nanos 1000000000 h) .0 in
             let z : _≡_ {A = ℕ} 0 1 = cc in
@@ -87,4 +87,4 @@ module _ (secs : ℤ) (nanos : ℕ) (epoch : ℤ) (p : Precision) (s : List ℕ)
         go false h q =
             let j : _≡_ {A = Outcome ℕ} (refuses r) (refuses (refusal 11 [])) = ap (λ (x : Outcome ℕ × List ℕ). x .0) q in
             let k : r ≡ refusal 11 [] = cc in
-            (ap (λ (x : Outcome ℕ × List ℕ). x .1) q, ap (refusalText []) k)
+            (ap (λ (x : Outcome ℕ × List ℕ). x .1) q, ap (refusalText false) k)

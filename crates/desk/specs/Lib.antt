@@ -1,8 +1,2 @@
-pub mod Words
-pub mod Numbers
-pub mod Hex
-pub mod Texts
-pub mod Fields
-pub mod Requests
+pub mod Verbs
 pub mod Answers
-pub mod Said

@@ -11,7 +11,7 @@ use Rattle.words.specs.Words.{bytes, wordLength, alike, fieldLength, fie
 use Rattle.words.specs.Numbers.{unsigned, signed, epoch}
 use Rattle.words.specs.Tables.{rowFrom}
 use Rattle.words.proofs.Splits.{rest-more}
-use Rattle.reader.specs.Numbers.{beginsWith, isDigit, allDigits, decimalAfter, digitsUpTo}
+use Rattle.fields.specs.Numbers.{beginsWith, isDigit, allDigits, decimalAfter, digitsUpTo}
 
 module _ (word table : List ℕ) (at count k : ℕ) where
   pub row-found : k < count → alike word (fieldWord (drop at table)) ≡ true → rowFrom (count - k) k word (drop at table) ≡ k

@@ -6,11 +6,11 @@ use Prim.Native.Nat.{ℕ, zero, suc, _+_, _-_, _<_, _≤_}
 use native.Mathlib.Nat.{add-zero}
 use native.Mathlib.Numerals.{add-one, sub-one}
 use native.Mathlib.Omega.{arith}
-use lib.ListN.{length, drop, getD, drop-of-length-le, length-drop}
+use lib.ListN.{length, drop, getD, drop-of-length-le, length-take, length-drop}
 use lib.Seq.{drop-cons, drop-drop}
 use borrow.Author.Tests.{eq-eqb, ne-eqb}
-use Rattle.reader.specs.Numbers.{beginsWith}
-use Rattle.words.specs.Words.{wordLength, alike, fieldLength, restAt}
+use Rattle.fields.specs.Numbers.{beginsWith}
+use Rattle.words.specs.Words.{wordLength, alike, fieldLength, fieldWord, restAt, wordAt}
 
 module _ (s : List ℕ) (i : ℕ) where
   pub word-found : i < length s → getD s i 0 ≡ 32 → i + wordLength (drop i s) ≡ i
@@ -71,3 +71,7 @@ pub rest-within : (i : ℕ) (s : List ℕ) → length (restAt i s) ≤ length s
 unfolding restAt
 rest-within zero s = omega arith
 rest-within (suc i) s = omega (arith, rest-within i (drop (fieldLength s) s), length-drop (fieldLength s) s)
+
+pub word-within : (i : ℕ) (s : List ℕ) → length (wordAt i s) ≤ length s
+unfolding wordAt fieldWord
+word-within i s = let h = rest-within i s in simp (length-take, length-drop) (omega arith)

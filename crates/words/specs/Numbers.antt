@@ -6,9 +6,9 @@ use Prim.Native.String.{String}
 use lib.Dec.{ltb}
 use lib.IntN.{ℤ, pos, negsuc}
 use lib.ListN.{length, drop}
-use Rattle.reader.specs.Numbers.{beginsWith, digitsUpTo}
-use Rattle.reader.specs.declared.numbers.Number.{Number}
-use Rattle.reader.specs.declared.numbers.Number.the-variants as Number
+use Rattle.fields.specs.Numbers.{beginsWith, digitsUpTo}
+use Rattle.fields.specs.declared.numbers.Number.{Number}
+use Rattle.fields.specs.declared.numbers.Number.the-variants as Number
 use Rattle.words.specs.Words.{byWord, wordAt}
 use Rattle.words.specs.declared.numbers.Signed.{Signed}
 use Rattle.words.specs.declared.numbers.Signed.the-variants.{Value, Bad}

@@ -5,9 +5,9 @@ use Prim.Native.Nat.{ℕ}
 use Prim.Native.String.{String}
 use lib.Dec.{eqb}
 use lib.ListN.{length, drop}
-use Rattle.reader.specs.Numbers.{beginsWith}
-use Rattle.reader.specs.declared.numbers.Number.{Number}
-use Rattle.reader.specs.declared.numbers.Number.the-variants as Number
+use Rattle.fields.specs.Numbers.{beginsWith}
+use Rattle.fields.specs.declared.numbers.Number.{Number}
+use Rattle.fields.specs.declared.numbers.Number.the-variants as Number
 use Rattle.words.specs.Words.{bytes, alike, byWord, fieldLength, fieldWord}
 use Rattle.words.specs.Numbers.{unsigned, signed, epoch}
 use Rattle.words.specs.Hex.{isHex}

@@ -1,8 +1,8 @@
 // Decimal numbers: digits alone, no needless zero, `-` where the type is signed, within the type.
-use reader::bytes::begins_with;
-use reader::bytes::skip;
-use reader::numbers::Number;
-use reader::numbers::digits;
+use fields::bytes::begins_with;
+use fields::bytes::skip;
+use fields::numbers::Number;
+use fields::numbers::digits;
 ghost use mathlib.Core.Path.{_≡_};
 ghost use Prim.Native.Nat.{_^_, _<_};
 ghost use Rattle.words.specs.Numbers.{unsigned, signed};

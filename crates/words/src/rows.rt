@@ -8,9 +8,9 @@ use crate::tables::parse_epoch;
 use crate::words::field_length;
 use crate::words::field_word;
 use crate::words::same;
-use reader::bytes::begins_with;
-use reader::bytes::skip;
-use reader::numbers::Number;
+use fields::bytes::begins_with;
+use fields::bytes::skip;
+use fields::numbers::Number;
 ghost use mathlib.Core.Path.{_≡_};
 ghost use Rattle.words.specs.Rows.{isSigned, isNumber, good, fits};
 

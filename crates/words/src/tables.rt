@@ -6,7 +6,7 @@ use crate::words::field_length;
 use crate::words::field_word;
 use crate::words::same;
 use crate::words::word_at;
-use reader::bytes::skip;
+use fields::bytes::skip;
 ghost use mathlib.Core.Path.{_≡_};
 ghost use Prim.Native.Nat.{_≤_};
 ghost use Rattle.words.specs.Numbers.{epoch};

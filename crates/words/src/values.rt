@@ -5,7 +5,7 @@ use crate::numbers::parse_signed;
 use crate::numbers::parse_unsigned;
 use crate::tables::parse_epoch;
 use crate::words::word_at;
-use reader::numbers::Number;
+use fields::numbers::Number;
 ghost use mathlib.Core.Path.{_≡_};
 ghost use Prim.Native.Nat.{_≤_};
 ghost use Rattle.words.specs.Numbers.{epochAt, wholeAt, naturalAt};

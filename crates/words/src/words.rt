@@ -1,6 +1,6 @@
 // Words between blanks. A field is a blank and the word behind it.
-use reader::bytes::begins_with;
-use reader::bytes::skip;
+use fields::bytes::begins_with;
+use fields::bytes::skip;
 ghost use mathlib.Core.Path.{_≡_};
 ghost use Prim.Native.Nat.{_≤_};
 ghost use lib.ListN.{length};

@@ -1,0 +1,43 @@
+-- The table of verbs by its numbers.
+use mathlib.Core.Path.{_≡_, refl, sym, _∙_}
+use mathlib.Core.Bool.{cond}
+use mathlib.Core.List.{List}
+use Prim.Native.Nat.{ℕ, _+_, _*_, _≤_}
+use native.Mathlib.Omega.{arith}
+use lib.ListN.{length, take, drop, List·getD-eq-default}
+use borrow.Author.Tests.{le-ltb}
+use Rattle.words.specs.Words.{bytes, wordLength, alike, fieldLength, fieldWord, restAt, wordAt}
+use Rattle.words.specs.Tables.{rowFrom}
+use Rattle.words.specs.Rows.{fits}
+use Rattle.words.proofs.ByRow.{byRow, by-row}
+use Rattle.answers.specs.Answers.{malformed}
+use Rattle.desk.specs.Verbs.{rows, answerOf, byVerb}
+use Rattle.desk.specs.Answers.{answerText}
+
+-- a number that is not the next one either
+pub after : (n : ℕ) {k : ℕ} → n ≤ k → (k ≡ n → ⊥) → n + 1 ≤ k
+after n h e = omega arith
+
+-- no verb has a number from there on
+pub past : (k : ℕ) (s : List ℕ) → 13 ≤ k → malformed ≡ answerOf k s
+unfolding answerOf
+past k s h = rw (List·getD-eq-default rows _ h)
+
+-- the table as the code has it
+abbrev pub table : List ℕ
+table =
+    bytes " print eiup. line eiupUx. new iu. date eybbbbbu. unix eiui. to-unix eiui. epoch eeiu. add iuUu. sub iuUu. since iuiu. compare iuiu. read et read-hex ex."
+
+-- what is answered by the number of a verb
+abbrev pub numbered : List ℕ → ℕ → List ℕ
+numbered s k = cond (fits (wordAt (2 * k + 1) table) s) (answerOf k s) malformed
+
+computed : (word s : List ℕ) → byRow (numbered s) 13 0 word table ≡ byVerb word s rows
+unfolding byRow wordAt restAt fieldLength fieldWord wordLength fits answerOf
+computed word s = refl
+
+pub answer-by : (s : List ℕ) (k : ℕ) → length s ≤ 65535 → k ≡ rowFrom 13 0 (take (wordLength s) s) table → answerText s ≡ numbered (drop (wordLength s) s) k
+unfolding answerText
+answer-by s k h e =
+    let rest = drop (wordLength s) s in
+    rw (le-ltb 65535 (length s) h, e) (sym (by-row (numbered rest) 13 0 (take (wordLength s) s) table ∙ computed (take (wordLength s) s) rest))

@@ -1,0 +1,75 @@
+// The verbs that print, and that write into lent bytes.
+use crate::parts::epoch_word;
+use crate::parts::precision_at;
+use crate::parts::time_at;
+use answers::lines::put_refusal;
+use answers::lines::put_said;
+use answers::said;
+use counts::Epoch;
+use counts::TaiTime;
+use printer::Precision;
+use printer::Printed;
+use printer::display;
+use texts::put;
+use texts::put_hex;
+use words::hex::unhex;
+use words::values::u64_at;
+use words::words::word_at;
+ghost use Prim.Native.Nat.{_+_, _*_, _≤_, _<_};
+ghost use lib.ListN.{length};
+ghost use Rattle.printer.specs.Display.{displayed};
+ghost use Rattle.texts.specs.Texts.{Put};
+ghost use Rattle.desk.specs.Verbs.{lentLine, answerOf};
+
+// The text is written where it stands in the answer.
+pub(crate) fn print(s: &[u8], out: &mut [u8]) -> usize
+    requires { ⌜ 128 ≤ length (now out) ⌝ }
+    ensures { λ r. ⌜ Put (now (out .entry)) 0 (answerOf 0 (now (s .entry))) (now (out .exit)) r ⌝ }
+    ensures { λ r. ⌜ r < 128 ⌝ }
+{
+    match display(time_at(s, 1), epoch_word(s, 0), precision_at(s, 3), out, 3) {
+        Printed::Length(n) => {
+            put(out, 0, b"ok ");
+            3 + n
+        }
+        Printed::Refused(e) => put_refusal(out, said::of_print(e)),
+    }
+}
+
+// The lent bytes stand behind what was answered, as they are then.
+fn print_in(
+    t: TaiTime,
+    epoch: Epoch,
+    precision: Precision,
+    at: usize,
+    lent: &mut [u8],
+    out: &mut [u8],
+) -> usize
+    requires { ⌜ 2 * length (now lent) + 128 ≤ length (now out) ⌝ }
+    ensures { λ r. ⌜ Put (now (out .entry)) 0 (lentLine (displayed (t .secs) (t .nanos) (epoch .0) precision (now (lent .entry)) at)) (now (out .exit)) r ⌝ }
+    ensures { λ r. ⌜ r < 2 * length (now (lent .entry)) + 128 ⌝ }
+{
+    let printed = display(t, epoch, precision, lent, at);
+    let end = put_said(out, said::printed(printed));
+    let end = put(out, end, b" ");
+    put_hex(out, end, lent)
+}
+
+pub(crate) fn line(s: &[u8], out: &mut [u8]) -> usize
+    requires { ⌜ (length (now s) ≤ 65535) × (length (now s) + 128 ≤ length (now out)) ⌝ }
+    ensures { λ r. ⌜ Put (now (out .entry)) 0 (answerOf 1 (now (s .entry))) (now (out .exit)) r ⌝ }
+    ensures { λ r. ⌜ r < length (now (s .entry)) + 128 ⌝ }
+{
+    let mut bytes = [0u8; 32768];
+    let n = unhex(word_at(s, 5), &mut bytes);
+    let t = time_at(s, 1);
+    let at = u64_at(s, 4) as usize;
+    print_in(
+        t,
+        epoch_word(s, 0),
+        precision_at(s, 3),
+        at,
+        &mut bytes[..n],
+        out,
+    )
+}
