@@ -10,12 +10,12 @@ use lib.Seq.{sets}
 use Rattle.words.specs.Words.{bytes}
 use Rattle.words.specs.Hex.{digitOf}
 
--- a number's last k digits, or fewer if they hold it: those of its tenth, and the last one (`0` is 48)
+-- a number in at most k digits, no needless zero: the digits of its tenth, and the last one (`0` is 48)
 unfoldable pub inPlaces : ℕ → ℕ → List ℕ
 inPlaces zero n = []
 inPlaces (suc k) n = cond (ltb n 10) ((48 + n) ∷ []) (inPlaces k (n / 10) ++ ((48 + n % 10) ∷ []))
 
--- a number's digits, no needless zero: 20 places hold every u64
+-- a number's digits: 20 hold every u64
 unfoldable pub natural : ℕ → List ℕ
 natural n = inPlaces 20 n
 

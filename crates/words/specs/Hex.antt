@@ -11,7 +11,7 @@ use Rattle.words.specs.Words.{bytes, alike}
 abbrev pub digitOf : ℕ → ℕ
 digitOf v = getD (bytes "0123456789abcdef") v 0
 
--- the value of a digit, below 16 of any byte: `0` (48) to `9` (57) have it in their lower four bits, `a` (97) to `f` (102) 9 less
+-- the value of a digit: the lower four bits of `0` (48) to `9` (57), and 9 more for `a` (97) to `f` (102); below 16 for every byte
 abbrev pub digitValue : ℕ → ℕ
 digitValue x = (x % 16 + x / 64 * 9) % 16
 
@@ -31,7 +31,7 @@ allDigits (x ∷ s) = isHexDigit x && allDigits s
 unfoldable pub isHex : List ℕ → Bool
 isHex s = cond (eqb (length s % 2) 0) (ltb 0 (length s) && allDigits s) (alike s (bytes "-"))
 
--- the bytes that its pairs stand for
+-- the bytes that its pairs of digits stand for: none for `-`
 unfoldable pub hexBytes : List ℕ → List ℕ
 hexBytes [] = []
 hexBytes (x ∷ []) = []
