@@ -13,7 +13,7 @@ use Rattle.desk.proofs.request.put_answer.Tie as tie
 -- the answer, by the verb's number
 by : (k : tie.After-row-of) →
     let n = k .before .before .before .before in
-    answerText (n .before .before .before .before .args .request .now) ≡ numbered (n .before .skip .result .now) (k .row-of .result)
+    answerText (n .before .before .before .before .before .args .request .now) ≡ numbered (n .skip .result .now) (k .row-of .result)
 by k =
     let w : tie.After-word-length = search in
     let s : tie.After-skip = search in
