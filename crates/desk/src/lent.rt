@@ -21,16 +21,22 @@ ghost use Rattle.printer.specs.Display.{displayed};
 ghost use Rattle.texts.specs.Texts.{Put};
 ghost use Rattle.desk.specs.Verbs.{lentLine, answerOf};
 
-// The text is written where it stands in the answer.
 pub(crate) fn print(s: &[u8], out: &mut [u8]) -> usize
     requires { ⌜ 128 ≤ length (now out) ⌝ }
     ensures { λ r. ⌜ Put (now (out .entry)) 0 (answerOf 0 (now (s .entry))) (now (out .exit)) r ⌝ }
     ensures { λ r. ⌜ r < 128 ⌝ }
 {
-    match display(time_at(s, 1), epoch_word(s, 0), precision_at(s, 3), out, 3) {
+    let mut text = [0u8; 64];
+    match display(
+        time_at(s, 1),
+        epoch_word(s, 0),
+        precision_at(s, 3),
+        &mut text,
+        0,
+    ) {
         Printed::Length(n) => {
-            put(out, 0, b"ok ");
-            3 + n
+            let at = put(out, 0, b"ok ");
+            put(out, at, &text[..n])
         }
         Printed::Refused(e) => put_refusal(out, said::of_print(e)),
     }

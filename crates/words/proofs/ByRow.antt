@@ -1,33 +1,27 @@
 -- Tables, one row after the other.
-use mathlib.Core.Path.{_≡_, refl, ap, _∙_}
+use mathlib.Core.Path.{_≡_, refl, _∙_}
 use mathlib.Core.Bool.{Bool, true, false, cond}
 use mathlib.Core.List.{List}
-use Prim.Native.Nat.{ℕ, zero, suc, _+_, _-_, _*_, _<_, _≤_}
+use Prim.Native.Nat.{ℕ, zero, suc, _+_, _-_, _*_, _<_}
+use native.Mathlib.Numerals.{sub-one}
 use native.Mathlib.Omega.{arith}
 use lib.Dec.{ltb}
-use lib.ListN.{drop}
 use Rattle.words.specs.declared.numbers.Signed.{Signed}
 use Rattle.words.specs.Words.{bytes, wordLength, alike, fieldLength, fieldWord, restAt, wordAt}
 use Rattle.words.specs.Numbers.{unsigned, signed, epoch}
 use Rattle.words.specs.Tables.{rowFrom}
-use Rattle.words.proofs.Splits.{rest-more}
 use Rattle.fields.specs.Numbers.{beginsWith, isDigit, allDigits, decimalAfter, digitsUpTo}
 
-module _ (word table : List ℕ) (at count k : ℕ) where
-  pub row-found : k < count → alike word (fieldWord (drop at table)) ≡ true → rowFrom (count - k) k word (drop at table) ≡ k
-  unfolding rowFrom
-  row-found h f = let e : count - k ≡ suc (count - (k + 1)) = omega arith in rw (e, f)
+pub row-found : (left k : ℕ) (word table : List ℕ) → 0 < left → alike word (fieldWord table) ≡ true → k ≡ rowFrom left k word table
+unfolding rowFrom
+row-found zero k word table h f = absurd (omega arith)
+row-found (suc left) k word table h f = rw f
 
-  pub row-more : {i j : ℕ} → k < count → alike word (fieldWord (drop at table)) ≡ false → i ≡ fieldLength (drop at table) → j ≡ fieldLength (drop (at + i) table)
-      → rowFrom (count - k) k word (drop at table) ≡ rowFrom (count - (k + 1)) (k + 1) word (drop (at + i + j) table)
-  unfolding rowFrom restAt
-  row-more {i} {j} h f g d =
-      let e : count - k ≡ suc (count - (k + 1)) = omega arith in
-      rw (e, f) (ap (rowFrom (count - (k + 1)) (k + 1) word) (rest-more 2 at table (omega arith) g ∙ rest-more 1 (at + i) table (omega arith) d))
-
-  pub row-none : count ≤ k → rowFrom (count - k) k word (drop at table) ≡ k
-  unfolding rowFrom
-  row-none h = let e : count - k ≡ 0 = omega arith in rw e
+pub row-more : (left k : ℕ) (word table : List ℕ) → 0 < left → alike word (fieldWord table) ≡ false
+    → rowFrom (left - 1) (k + 1) word (restAt 2 table) ≡ rowFrom left k word table
+unfolding rowFrom
+row-more zero k word table h f = absurd (omega arith)
+row-more (suc left) k word table h f = rw (f, sub-one)
 
 -- what is made of the row's number, row by row
 unfoldable pub byRow : {A : Type 0} → (ℕ → A) → ℕ → ℕ → List ℕ → List ℕ → A

@@ -1,24 +1,24 @@
 -- Rows and words, one field after the other.
-use mathlib.Core.Path.{_≡_}
+use mathlib.Core.Path.{_≡_, refl}
 use mathlib.Core.Bool.{true, false}
-use mathlib.Core.List.{List}
-use Prim.Native.Nat.{ℕ, _+_, _<_, _≤_}
-use native.Mathlib.Numerals.{add-one}
-use lib.ListN.{length, drop, getD, drop-of-length-le}
-use lib.Seq.{drop-cons, drop-drop}
+use mathlib.Core.List.{List, [], _∷_}
+use Prim.Native.Nat.{ℕ, _<_}
+use native.Mathlib.Omega.{arith}
+use lib.ListN.{length, drop, getD}
 use Rattle.words.specs.Words.{fieldLength}
 use Rattle.words.specs.Rows.{good, fits}
 
-module _ (row s : List ℕ) (at i : ℕ) where
-  pub fits-not : i < length row → good (getD row i 0) (drop at s) ≡ false → fits (drop i row) (drop at s) ≡ false
-  unfolding fits
-  fits-not h e = rw (drop-cons row i 0 h, e)
+pub fits-none : (row s : List ℕ) → length row ≡ 0 → true ≡ fits row s
+unfolding fits
+fits-none [] s h = refl
+fits-none (kind ∷ row) s h = absurd (omega arith)
 
-  pub fits-more : {n : ℕ} → i < length row → good (getD row i 0) (drop at s) ≡ true → n ≡ fieldLength (drop at s)
-      → fits (drop i row) (drop at s) ≡ fits (drop (i + 1) row) (drop (at + n) s)
-  unfolding fits
-  fits-more h e f = rw (drop-cons row i 0 h, e, f, drop-drop, add-one)
+pub fits-not : (row s : List ℕ) → 0 < length row → good (getD row 0 0) s ≡ false → false ≡ fits row s
+unfolding fits
+fits-not [] s h e = absurd (omega arith)
+fits-not (kind ∷ row) s h e = rw e
 
-  pub fits-end : length row ≤ i → fits (drop i row) (drop at s) ≡ true
-  unfolding fits
-  fits-end h = rw (drop-of-length-le row h)
+pub fits-more : (row s : List ℕ) → 0 < length row → good (getD row 0 0) s ≡ true → fits (drop 1 row) (drop (fieldLength s) s) ≡ fits row s
+unfolding fits
+fits-more [] s h e = absurd (omega arith)
+fits-more (kind ∷ row) s h e = rw e

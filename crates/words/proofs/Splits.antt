@@ -7,7 +7,7 @@ use native.Mathlib.Nat.{add-zero}
 use native.Mathlib.Numerals.{add-one, sub-one}
 use native.Mathlib.Omega.{arith}
 use lib.ListN.{length, drop, getD, drop-of-length-le, length-take, length-drop}
-use lib.Seq.{drop-cons, drop-drop}
+use lib.Seq.{drop-cons}
 use borrow.Author.Tests.{eq-eqb, ne-eqb}
 use Rattle.fields.specs.Numbers.{beginsWith}
 use Rattle.words.specs.Words.{wordLength, alike, fieldLength, fieldWord, restAt, wordAt}
@@ -62,10 +62,10 @@ unfolding beginsWith
 blank-length [] e = let z : _≡_ {A = ℕ} 0 1 = cc in absurd (omega arith)
 blank-length (x ∷ s) e = omega arith
 
-pub rest-more : (left at : ℕ) (s : List ℕ) {n : ℕ} → 0 < left → n ≡ fieldLength (drop at s) → restAt left (drop at s) ≡ restAt (left - 1) (drop (at + n) s)
+pub rest-more : (i : ℕ) (s : List ℕ) → 0 < i → restAt i s ≡ restAt (i - 1) (drop (fieldLength s) s)
 unfolding restAt
-rest-more zero at s h f = absurd (omega arith)
-rest-more (suc left) at s h f = rw (f, drop-drop, sub-one)
+rest-more zero s h = absurd (omega arith)
+rest-more (suc i) s h = rw sub-one
 
 pub rest-within : (i : ℕ) (s : List ℕ) → length (restAt i s) ≤ length s
 unfolding restAt

@@ -56,15 +56,11 @@ fn is_good(kind: u8, s: &[u8]) -> bool
 pub fn row_fits(s: &[u8], row: &[u8]) -> bool
     ensures { λ r. ⌜ r ≡ fits (now (row .entry)) (now (s .entry)) ⌝ }
 {
-    let mut at = 0;
-    let mut i = 0;
-    while i < row.len() {
-        let rest = skip(s, at);
-        if !is_good(row[i], rest) {
-            return false;
-        }
-        at += field_length(rest);
-        i += 1;
+    if row.len() == 0 {
+        return true;
     }
-    true
+    if !is_good(row[0], s) {
+        return false;
+    }
+    row_fits(skip(s, field_length(s)), skip(row, 1))
 }

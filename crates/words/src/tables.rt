@@ -2,33 +2,28 @@
 use crate::numbers::Signed;
 use crate::numbers::TOP;
 use crate::numbers::parse_signed;
-use crate::words::field_length;
 use crate::words::field_word;
+use crate::words::rest_at;
 use crate::words::same;
 use crate::words::word_at;
-use fields::bytes::skip;
 ghost use mathlib.Core.Path.{_≡_};
-ghost use Prim.Native.Nat.{_≤_};
+ghost use Prim.Native.Nat.{_+_, _≤_};
 ghost use Rattle.words.specs.Numbers.{epoch};
 ghost use Rattle.words.specs.Tables.{rowFrom};
 
-// The number of the row that a word names, of so many rows; or how many there are.
-pub fn row_of(word: &[u8], table: &[u8], count: usize) -> usize
-    ensures { λ r. ⌜ r ≡ rowFrom count 0 (now (word .entry)) (now (table .entry)) ⌝ }
-    ensures { λ r. ⌜ r ≤ count ⌝ }
+// The number of the row that a word names, of so many rows that stand behind k others; or how many there are in all.
+pub fn row_of(word: &[u8], table: &[u8], left: usize, k: usize) -> usize
+    requires { ⌜ k + left ≤ 1000 ⌝ }
+    ensures { λ r. ⌜ r ≡ rowFrom left k (now (word .entry)) (now (table .entry)) ⌝ }
+    ensures { λ r. ⌜ r ≤ k + left ⌝ }
 {
-    let mut at = 0;
-    let mut k = 0;
-    while k < count {
-        let rest = skip(table, at);
-        if same(word, field_word(rest)) {
-            return k;
-        }
-        at += field_length(rest);
-        at += field_length(skip(table, at));
-        k += 1;
+    if left == 0 {
+        return k;
     }
-    k
+    if same(word, field_word(table)) {
+        return k;
+    }
+    row_of(word, rest_at(table, 2), left - 1, k + 1)
 }
 
 // An epoch by its name or its number.
@@ -37,7 +32,7 @@ pub fn parse_epoch(word: &[u8]) -> Signed
 {
     let table =
         b" monotonic 0 gps 315964819 gst 935280019 bdt 1136073633 tai1958 -378691200 tai1972 63072000";
-    let k = row_of(word, table, 6);
+    let k = row_of(word, table, 6, 0);
     if k < 6 {
         return parse_signed(word_at(table, 2 * k + 1), TOP);
     }

@@ -60,13 +60,10 @@ pub fn field_word(s: &[u8]) -> &[u8]
 pub fn rest_at(s: &[u8], i: usize) -> &[u8]
     ensures { λ r. ⌜ now r ≡ restAt i (now (s .entry)) ⌝ }
 {
-    let mut at = 0;
-    let mut left = i;
-    while 0 < left {
-        at += field_length(skip(s, at));
-        left -= 1;
+    if i == 0 {
+        return s;
     }
-    skip(s, at)
+    rest_at(skip(s, field_length(s)), i - 1)
 }
 
 // The word i.

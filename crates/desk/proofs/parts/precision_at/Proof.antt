@@ -4,21 +4,14 @@ use Rattle.desk.specs.Verbs.{precisionAt}
 use Rattle.desk.proofs.parts.precision_at.Statement.{statement}
 use Rattle.desk.proofs.parts.precision_at.Tie as tie
 
-returns : tie.Need-returns
-unfolding precisionAt
-returns c = rw (← c .before .before .before .word-at .ensures, ← c .before .same .ensures, c .if1 .taken)
-
-returns-2 : tie.Need-returns-2
-unfolding precisionAt
-returns-2 c = rw (← c .before .before .before .before .word-at .ensures, ← c .before .before .same .ensures, c .before .if1 .left, c .u64-at .ensures)
-
 pub precision-at-spec : {M : Type 1} → statement M
+unfolding precisionAt
 precision-at-spec =
     tie.close
     (tie.spec
     (λ c κs. search needs)
     (λ c. search needs)
     (λ c κs. search needs)
-    returns
+    (λ c. rw (← c .before .before .before .word-at .ensures, ← c .before .same .ensures, c .if1 .taken))
     (λ c κs. search needs)
-    returns-2)
+    (λ c. rw (← c .before .before .before .before .word-at .ensures, ← c .before .before .same .ensures, c .before .if1 .left, c .u64-at .ensures)))

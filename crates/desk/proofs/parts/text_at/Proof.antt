@@ -4,14 +4,11 @@ use Rattle.desk.specs.Verbs.{textAt}
 use Rattle.desk.proofs.parts.text_at.Statement.{statement}
 use Rattle.desk.proofs.parts.text_at.Tie as tie
 
-returns : tie.Need-returns
-unfolding textAt
-returns c = rw (← c .before .rest-at .ensures) (c .skip .ensures)
-
 pub text-at-spec : {M : Type 1} → statement M
+unfolding textAt
 text-at-spec =
     tie.close
     (tie.spec
     (λ c κs. search needs)
     (λ c κs. search needs)
-    returns)
+    (λ c. rw (← c .before .rest-at .ensures) (c .skip .ensures)))

@@ -20,12 +20,6 @@ by k =
     let e = rw (w .word-length .ensures .0) at (k .row-of .ensures .0) in
     rw (s .skip .ensures, w .word-length .ensures .0) (answer-by _ _ (w .before .if1 .left) e)
 
-returns-2 : tie.Need-returns-2
-returns-2 c = let f : tie.After-row-fits = search in (rw (by (search), ← f .before .word-at .ensures, ← f .row-fits .ensures, not-true (f .row-fits .result) (c .before .before .before .before .before .if2 .taken)) (c .before .before .put2 .ensures), omega (arith, c .before .before .put2 .ensures .place))
-
-returns-3 : tie.Need-returns-3
-returns-3 c = let f : tie.After-row-fits = search in let k = simp length-drop at (ap length (c .before .before .before .before .before .before .before .before .before .before .before .before .skip .ensures)) in (rw (by (search), ← f .before .word-at .ensures, ← f .row-fits .ensures, not-false (f .row-fits .result) (c .before .before .before .before .if2 .left)) (c .before .before .put-verb .ensures .0), omega (arith, c .before .before .put-verb .ensures .1))
-
 pub put-answer-spec : {M : Type 1} → statement M
 put-answer-spec =
     tie.close
@@ -45,7 +39,7 @@ put-answer-spec =
     (λ c. search needs)
     (λ c κs. search needs)
     (λ c. search needs)
-    returns-2
+    (λ c. let f : tie.After-row-fits = search in (rw (by (search), ← f .before .word-at .ensures, ← f .row-fits .ensures, not-true (f .row-fits .result) (c .before .before .before .before .before .if2 .taken)) (c .before .before .put2 .ensures), omega (arith, c .before .before .put2 .ensures .place)))
     (λ c κs. let k = simp length-drop at (ap length (c .before .before .before .before .before .before .before .before .before .skip .ensures)) in (omega arith, omega arith))
     (λ c. search needs)
-    returns-3)
+    (λ c. let f : tie.After-row-fits = search in let k = simp length-drop at (ap length (c .before .before .before .before .before .before .before .before .before .before .before .before .skip .ensures)) in (rw (by (search), ← f .before .word-at .ensures, ← f .row-fits .ensures, not-false (f .row-fits .result) (c .before .before .before .before .if2 .left)) (c .before .before .put-verb .ensures .0), omega (arith, c .before .before .put-verb .ensures .1))))

@@ -9,11 +9,8 @@ use Rattle.desk.specs.Verbs.{answerOf}
 use Rattle.desk.proofs.verbs.date.Statement.{statement}
 use Rattle.desk.proofs.verbs.date.Tie as tie
 
-returns : tie.Need-returns
-unfolding answerOf
-returns c = let f : SFits w32 (c .before .before .before .before .before .before .before .before .i32-at .result) = search needs in rw (← c .before .before .before .before .before .before .before .before .before .epoch-word .ensures, ← c .before .before .before .before .before .before .before .before .i32-at .ensures, ← c .before .before .before .before .before .before .before .u8-at .ensures, ← c .before .before .before .before .before .before .u8-at2 .ensures, ← c .before .before .before .before .before .u8-at3 .ensures, ← c .before .before .before .before .u8-at4 .ensures, ← c .before .before .before .u8-at5 .ensures, ← c .before .before .u32-at .ensures) (c .date-time .ensures ∙ ap timeLine (simp toZ-ofZ at (c .before .try-from-date-time .ensures)))
-
 pub date-spec : {M : Type 1} → statement M
+unfolding answerOf
 date-spec =
     tie.close
     (tie.spec
@@ -27,4 +24,4 @@ date-spec =
     (λ c κs. search needs)
     (λ c κs. search needs)
     (λ c κs. search needs)
-    returns)
+    (λ c. let f : SFits w32 (c .before .before .before .before .before .before .before .before .i32-at .result) = search needs in rw (← c .before .before .before .before .before .before .before .before .before .epoch-word .ensures, ← c .before .before .before .before .before .before .before .before .i32-at .ensures, ← c .before .before .before .before .before .before .before .u8-at .ensures, ← c .before .before .before .before .before .before .u8-at2 .ensures, ← c .before .before .before .before .before .u8-at3 .ensures, ← c .before .before .before .before .u8-at4 .ensures, ← c .before .before .before .u8-at5 .ensures, ← c .before .before .u32-at .ensures) (c .date-time .ensures ∙ ap timeLine (simp toZ-ofZ at (c .before .try-from-date-time .ensures)))))

@@ -8,11 +8,8 @@ use Rattle.desk.specs.Verbs.{answerOf}
 use Rattle.desk.proofs.verbs.read_hex.Statement.{statement}
 use Rattle.desk.proofs.verbs.read_hex.Tie as tie
 
-returns : tie.Need-returns
-unfolding answerOf
-returns c = rw (← c .before .before .epoch-word .ensures, ← c .before .before .before .before .before .before .before .word-at .ensures, ← c .before .before .before .before .before .unhex .ensures .front, ← c .before .from-str .ensures) (c .read .ensures)
-
 pub read-hex-spec : {M : Type 1} → statement M
+unfolding answerOf
 read-hex-spec =
     tie.close
     (tie.spec
@@ -24,4 +21,4 @@ read-hex-spec =
     (λ c κs. search needs)
     (λ c κs. search needs)
     (λ c κs. search needs)
-    returns)
+    (λ c. rw (← c .before .before .epoch-word .ensures, ← c .before .before .before .before .before .before .before .word-at .ensures, ← c .before .before .before .before .before .unhex .ensures .front, ← c .before .from-str .ensures) (c .read .ensures)))

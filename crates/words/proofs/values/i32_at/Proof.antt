@@ -14,15 +14,8 @@ use Rattle.words.proofs.values.i32_at.Tie as tie
 cast-result : tie.Need-cast-result
 cast-result c = let f : SFits w64 (c .before .v .given .0 .0) = search needs in omega (arith, signed, known f, signed-range _ _ (sym (c .before .before .before .parse-signed .ensures) ∙ c .before .v .given .1))
 
-returns : tie.Need-returns
-unfolding wholeAt
-returns c = let f : SFits w64 (c .before .v .given .0 .0) = search needs in let g = cast-result c in rw (toZ-ofZ {w = w32} g, toZ-ofZ {w = w64} f, ← c .before .before .before .before .word-at .ensures, ← c .before .before .before .parse-signed .ensures, c .before .v .given .1)
-
-returns-2 : tie.Need-returns-2
-unfolding wholeAt
-returns-2 c = rw (← c .before .before .before .word-at .ensures, ← c .before .before .parse-signed .ensures, c .enum-told .given .1)
-
 pub i32-at-spec : {M : Type 1} → statement M
+unfolding wholeAt
 i32-at-spec =
     tie.close
     (tie.spec
@@ -31,5 +24,5 @@ i32-at-spec =
     (λ c. search needs)
     cast-result
     (λ c. search needs)
-    returns
-    returns-2)
+    (λ c. let f : SFits w64 (c .before .v .given .0 .0) = search needs in let g = cast-result c in rw (toZ-ofZ {w = w32} g, toZ-ofZ {w = w64} f, ← c .before .before .before .before .word-at .ensures, ← c .before .before .before .parse-signed .ensures, c .before .v .given .1))
+    (λ c. rw (← c .before .before .before .word-at .ensures, ← c .before .before .parse-signed .ensures, c .enum-told .given .1)))

@@ -13,11 +13,8 @@ returns c =
     let e = rw (c .before .before .before .before .word-at .ensures) at (sym (c .before .before .before .parse-unsigned .ensures) ∙ c .before .v .given .1) in
     (rw e, unsigned-small _ _ e)
 
-returns-2 : tie.Need-returns-2
-unfolding naturalAt
-returns-2 c = (rw (← c .before .before .before .word-at .ensures, ← c .before .before .parse-unsigned .ensures, c .enum-told .given .1), omega arith)
-
 pub natural-at-spec : {M : Type 1} → statement M
+unfolding naturalAt
 natural-at-spec =
     tie.close
     (tie.spec
@@ -26,4 +23,4 @@ natural-at-spec =
     (λ c. search needs)
     (λ c. search needs)
     returns
-    returns-2)
+    (λ c. (rw (← c .before .before .before .word-at .ensures, ← c .before .before .parse-unsigned .ensures, c .enum-told .given .1), omega arith)))

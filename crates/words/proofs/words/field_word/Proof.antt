@@ -7,15 +7,8 @@ use Rattle.words.specs.Words.{fieldWord}
 use Rattle.words.proofs.words.field_word.Statement.{statement}
 use Rattle.words.proofs.words.field_word.Tie as tie
 
-returns : tie.Need-returns
-unfolding fieldWord
-returns c = rw (← c .before .before .field-length .ensures .0)
-
-returns-2 : tie.Need-returns-2
-unfolding fieldWord
-returns-2 c = let z : c .before .before .field-length .result - 1 ≡ 0 = omega arith in rw (← c .before .before .field-length .ensures .0, z)
-
 pub field-word-spec : {M : Type 1} → statement M
+unfolding fieldWord
 field-word-spec =
     tie.close
     (tie.spec
@@ -24,5 +17,5 @@ field-word-spec =
     (λ c. search needs)
     (λ c. search needs)
     (λ c. search needs)
-    returns
-    returns-2)
+    (λ c. rw (← c .before .before .field-length .ensures .0))
+    (λ c. let z : c .before .before .field-length .result - 1 ≡ 0 = omega arith in rw (← c .before .before .field-length .ensures .0, z)))
