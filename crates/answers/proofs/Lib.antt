@@ -1,1 +1,1 @@
-mod Names
+mod Refusals

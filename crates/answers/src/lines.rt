@@ -1,7 +1,6 @@
 // What an entry answered, as a line from the front of out, and the place behind it.
-use crate::said::Refusal;
 use crate::said::Said;
-use counts::Ordering;
+use errors::Refusal;
 use texts::put;
 use texts::put_behind_blank;
 use texts::put_integer;
@@ -9,10 +8,11 @@ use texts::put_natural;
 use words::words::word_at;
 ghost use Prim.Native.Nat.{_+_, _≤_};
 ghost use lib.ListN.{length};
-ghost use Rattle.texts.specs.Texts.{Put};
+ghost use Rattle.errors.specs.Told.{told};
+ghost use Rattle.texts.specs.Texts.{natural, Put};
 ghost use Rattle.words.specs.Words.{wordAt};
-ghost use Rattle.answers.specs.Answers.{names, mark, orderText};
-ghost use Rattle.answers.specs.Said.{refusedText, saidText};
+ghost use Rattle.answers.specs.Answers.{names, mark, line};
+ghost use Rattle.answers.specs.Said.{saidText};
 
 fn put_mark(out: &mut [u8], at: usize, in_range_error: bool) -> usize
     requires { ⌜ at + 11 ≤ length (now out) ⌝ }
@@ -37,7 +37,7 @@ fn put_name(out: &mut [u8], at: usize, number: u8) -> usize
 
 pub fn put_refusal(out: &mut [u8], refusal: Refusal) -> usize
     requires { ⌜ 128 ≤ length (now out) ⌝ }
-    ensures { λ r. ⌜ Put (now (out .entry)) 0 (refusedText refusal) (now (out .exit)) r ⌝ }
+    ensures { λ r. ⌜ Put (now (out .entry)) 0 (line natural (told refusal)) (now (out .exit)) r ⌝ }
     ensures { λ r. ⌜ r ≤ 80 ⌝ }
 {
     let at = put(out, 0, b"refused ");
@@ -49,18 +49,6 @@ pub fn put_refusal(out: &mut [u8], refusal: Refusal) -> usize
         return put_behind_blank(out, at, refusal.value as u64);
     }
     at
-}
-
-fn put_order(out: &mut [u8], at: usize, o: Ordering) -> usize
-    requires { ⌜ at + 7 ≤ length (now out) ⌝ }
-    ensures { λ r. ⌜ Put (now (out .entry)) at (orderText o) (now (out .exit)) r ⌝ }
-    ensures { λ r. ⌜ r ≤ at + 7 ⌝ }
-{
-    match o {
-        Ordering::Less => put(out, at, b"earlier"),
-        Ordering::Equal => put(out, at, b"same"),
-        Ordering::Greater => put(out, at, b"later"),
-    }
 }
 
 pub fn put_said(out: &mut [u8], said: Said) -> usize
@@ -87,9 +75,9 @@ pub fn put_said(out: &mut [u8], said: Said) -> usize
             let at = put(out, 0, b"ok ");
             put_natural(out, at, n)
         }
-        Said::Order(o) => {
+        Said::Word(i) => {
             let at = put(out, 0, b"ok ");
-            put_order(out, at, o)
+            put(out, at, word_at(b" earlier same later", i))
         }
         Said::Refused(r) => put_refusal(out, r),
         Said::Malformed => put(out, 0, b"malformed"),

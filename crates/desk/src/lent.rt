@@ -38,7 +38,7 @@ pub(crate) fn print(s: &[u8], out: &mut [u8]) -> usize
             let at = put(out, 0, b"ok ");
             put(out, at, &text[..n])
         }
-        Printed::Refused(e) => put_refusal(out, said::of_print(e)),
+        Printed::Refused(e) => put_refusal(out, e.refusal()),
     }
 }
 

@@ -1,4 +1,7 @@
 // The refusals of document 01's table.
+mod refusal;
+
+pub use refusal::Refusal;
 
 // Refusals 0 to 6: a date or a time of day that does not exist, or that no count reaches.
 pub enum DateTimeError {

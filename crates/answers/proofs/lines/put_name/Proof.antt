@@ -3,7 +3,7 @@ use mathlib.Core.Path.{ap}
 use native.Mathlib.Omega.{arith}
 use lib.ListN.{length}
 use borrow.Author.Needs.{needs}
-use Rattle.answers.proofs.Names.{name-short}
+use Rattle.answers.proofs.Refusals.{name-short}
 use Rattle.answers.proofs.lines.put_name.Statement.{statement}
 use Rattle.answers.proofs.lines.put_name.Tie as tie
 

@@ -1,9 +1,13 @@
 -- `answers::lines::put_said`: the pieces are put one behind the other (`put-on`).
+use mathlib.Core.Path.{ap}
 use native.Mathlib.Omega.{arith}
+use lib.ListN.{length}
 use mir.Facts.{toZ-ofZ}
 use mir.Syntax.{w64}
 use mir.Val.{SFits}
 use borrow.Author.Needs.{needs}
+use Rattle.words.specs.Words.{bytes}
+use Rattle.words.proofs.Splits.{word-within}
 use Rattle.texts.proofs.Puts.{put-on}
 use Rattle.answers.proofs.lines.put_said.Statement.{statement}
 use Rattle.answers.proofs.lines.put_said.Tie as tie
@@ -35,7 +39,9 @@ put-said-spec =
     (λ c. search needs)
     (λ c. search needs)
     (λ c κs. search needs)
+    (λ c. search needs)
     (λ c κs. search needs)
+    (λ c κs. let e = ap length (c .word-at .ensures) in omega (arith, c .before .before .before .before .before .put5 .ensures .place, word-within (c .before .before .before .before .before .before .before .before .before .said5 .given .0 .0) (bytes " earlier same later")))
     (λ c. search needs)
     (λ c κs. search needs)
     (λ c. search needs)
@@ -50,8 +56,8 @@ put-said-spec =
     (λ c. search needs)
     (λ c. rw (c .before .before .before .before .before .before .before .before .before .before .said4 .given .1) (put-on (c .before .before .before .before .before .before .put4 .ensures) (c .before .before .put-natural2 .ensures .0), omega (arith, c .before .before .before .before .before .before .put4 .ensures .place, c .before .before .put-natural2 .ensures .1)))
     (λ c. search needs)
-    (λ c. rw (c .before .before .before .before .before .before .before .before .before .before .said5 .given .1) (put-on (c .before .before .before .before .before .before .put5 .ensures) (c .before .before .put-order .ensures .0), omega (arith, c .before .before .before .before .before .before .put5 .ensures .place, c .before .before .put-order .ensures .1)))
+    (λ c. let e = ap length (c .before .before .before .word-at .ensures) in (rw (c .before .before .before .before .before .before .before .before .before .before .before .before .said5 .given .1, ← c .before .before .before .word-at .ensures) (put-on (c .before .before .before .before .before .before .before .before .put5 .ensures) (c .before .before .put6 .ensures)), omega (arith, c .before .before .before .before .before .before .before .before .put5 .ensures .place, c .before .before .put6 .ensures .place, word-within (c .before .before .before .before .before .before .before .before .before .before .before .before .said5 .given .0 .0) (bytes " earlier same later"))))
     (λ c. search needs)
     (λ c. rw (c .before .before .before .before .before .said6 .given .1) (c .before .before .put-refusal .ensures))
     (λ c. search needs)
-    (λ c. rw (c .before .before .before .before .before .enum-told .given .1) (c .before .before .put6 .ensures, omega (arith, c .before .before .put6 .ensures .place))))
+    (λ c. rw (c .before .before .before .before .before .enum-told .given .1) (c .before .before .put7 .ensures, omega (arith, c .before .before .put7 .ensures .place))))

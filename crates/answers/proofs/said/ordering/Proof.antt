@@ -1,14 +1,21 @@
 -- `answers::said::ordering`.
 use borrow.Author.Needs.{needs}
+use Rattle.words.specs.Words.{wordLength, fieldLength, fieldWord, restAt, wordAt}
 use Rattle.answers.proofs.said.ordering.Statement.{statement}
 use Rattle.answers.proofs.said.ordering.Tie as tie
 
 pub ordering-spec : {M : Type 1} → statement M
+unfolding wordLength fieldLength fieldWord restAt wordAt
 ordering-spec =
     tie.close
     (tie.spec
     (λ c. search needs)
     (λ c. search needs)
+    (λ c. search needs)
+    (λ c. search needs)
+    (λ c. search needs)
     (λ c κs. search needs)
-    (λ c. rw (c .before .a .given .1))
-    (λ c. rw (c .before .before .a2 .given .1) (c .of-count .ensures)))
+    (λ c. rw (c .before .before .before .a .given .1, c .enum-told .given .1))
+    (λ c. rw (c .before .before .before .a .given .1, c .enum-told2 .given .1))
+    (λ c. rw (c .before .before .before .a .given .1, c .enum-told3 .given .1))
+    (λ c. rw (c .refusal .ensures, c .before .before .a2 .given .1)))

@@ -11,4 +11,4 @@ printed-spec =
     (λ c. search needs)
     (λ c κs. search needs)
     (λ c. rw (c .before .a .given .1))
-    (λ c. rw (c .before .before .a2 .given .1) (c .of-print .ensures)))
+    (λ c. rw (c .refusal .ensures, c .before .before .a2 .given .1)))

@@ -1,5 +1,6 @@
 -- `answers::said::read`.
 use borrow.Author.Needs.{needs}
+use Rattle.answers.proofs.Refusals.{parse-text}
 use Rattle.answers.proofs.said.read.Statement.{statement}
 use Rattle.answers.proofs.said.read.Tie as tie
 
@@ -11,4 +12,4 @@ read-spec =
     (λ c. search needs)
     (λ c κs. search needs)
     (λ c. rw (c .before .a .given .1))
-    (λ c. rw (c .before .before .a2 .given .1) (c .of-parse .ensures)))
+    (λ c. rw (c .refusal .ensures, c .before .before .a2 .given .1) (parse-text (c .before .before .a2 .given .0 .0))))

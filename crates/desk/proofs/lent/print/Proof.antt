@@ -36,4 +36,4 @@ print-spec =
     (λ c. search needs)
     returns
     (λ c. search needs)
-    (λ c. (rw (← c .before .before .before .before .before .before .before .before .before .before .before .before .epoch-word .ensures, ← c .before .before .before .before .before .before .before .before .before .before .before .before .before .time-at .ensures .0, ← c .before .before .before .before .before .before .before .before .before .before .before .before .before .time-at .ensures .1, ← c .before .before .before .before .before .before .before .before .before .before .before .precision-at .ensures, ← printed _ _ _ _ _ (omega arith) (search needs) (search needs) (c .before .before .before .before .before .before .before .before .before .display .ensures), c .before .before .before .before .before .before .e .given .1, ← c .before .before .before .of-print .ensures) (c .before .before .put-refusal .ensures .0), omega (arith, c .before .before .put-refusal .ensures .1))))
+    (λ c. (rw (← c .before .before .before .before .before .before .before .before .before .before .before .before .epoch-word .ensures, ← c .before .before .before .before .before .before .before .before .before .before .before .before .before .time-at .ensures .0, ← c .before .before .before .before .before .before .before .before .before .before .before .before .before .time-at .ensures .1, ← c .before .before .before .before .before .before .before .before .before .before .before .precision-at .ensures, ← printed _ _ _ _ _ (omega arith) (search needs) (search needs) (c .before .before .before .before .before .before .before .before .before .display .ensures), c .before .before .before .before .before .before .e .given .1) (rw (c .before .before .before .refusal .ensures) at (c .before .before .put-refusal .ensures .0)), omega (arith, c .before .before .put-refusal .ensures .1))))

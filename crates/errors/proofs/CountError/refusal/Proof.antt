@@ -1,10 +1,10 @@
--- `answers::said::of_count`.
+-- `CountError::refusal`.
 use borrow.Author.Needs.{needs}
-use Rattle.answers.proofs.said.of_count.Statement.{statement}
-use Rattle.answers.proofs.said.of_count.Tie as tie
+use Rattle.errors.proofs.CountError.refusal.Statement.{statement}
+use Rattle.errors.proofs.CountError.refusal.Tie as tie
 
-pub of-count-spec : {M : Type 1} → statement M
-of-count-spec =
+pub refusal-spec : {M : Type 1} → statement M
+refusal-spec =
     tie.close
     (tie.spec
     (λ c. search needs)

@@ -1,10 +1,10 @@
--- `answers::said::of_print`.
+-- `PrintError::refusal`.
 use borrow.Author.Needs.{needs}
-use Rattle.answers.proofs.said.of_print.Statement.{statement}
-use Rattle.answers.proofs.said.of_print.Tie as tie
+use Rattle.errors.proofs.PrintError.refusal.Statement.{statement}
+use Rattle.errors.proofs.PrintError.refusal.Tie as tie
 
-pub of-print-spec : {M : Type 1} → statement M
-of-print-spec =
+pub refusal-spec : {M : Type 1} → statement M
+refusal-spec =
     tie.close
     (tie.spec
     (λ c. search needs)

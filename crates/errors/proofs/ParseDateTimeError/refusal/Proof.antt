@@ -1,10 +1,10 @@
--- `answers::said::of_parse`.
+-- `ParseDateTimeError::refusal`.
 use borrow.Author.Needs.{needs}
-use Rattle.answers.proofs.said.of_parse.Statement.{statement}
-use Rattle.answers.proofs.said.of_parse.Tie as tie
+use Rattle.errors.proofs.ParseDateTimeError.refusal.Statement.{statement}
+use Rattle.errors.proofs.ParseDateTimeError.refusal.Tie as tie
 
-pub of-parse-spec : {M : Type 1} → statement M
-of-parse-spec =
+pub refusal-spec : {M : Type 1} → statement M
+refusal-spec =
     tie.close
     (tie.spec
     (λ c. search needs)
@@ -18,4 +18,4 @@ of-parse-spec =
     (λ c. rw (c .before .enum-told .given .1) (c .bare .ensures))
     (λ c. rw (c .before .enum-told2 .given .1) (c .bare2 .ensures))
     (λ c. rw (c .before .enum-told3 .given .1) (c .bare3 .ensures))
-    (λ c. rw (c .before .before .e .given .1) (c .of-date-time .ensures)))
+    (λ c. rw (c .before .before .self .given .1) (c .refusal .ensures)))
