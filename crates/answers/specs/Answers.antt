@@ -4,8 +4,8 @@ use mathlib.Core.List.{List, [], _∷_, _++_}
 use Prim.Native.Nat.{ℕ}
 use lib.IntN.{ℤ}
 use Rattle.errors.specs.Refusals.{Refusal, Outcome, gives, refuses, refusesInRangeError}
-use Rattle.counts.specs.declared.Ordering.{Ordering}
-use Rattle.counts.specs.declared.Ordering.the-variants.{Less, Equal, Greater}
+use Rattle.durations.specs.declared.Ordering.{Ordering}
+use Rattle.durations.specs.declared.Ordering.the-variants.{Less, Equal, Greater}
 use Rattle.words.specs.Words.{bytes, wordAt}
 use Rattle.texts.specs.Texts.{natural, integer}
 

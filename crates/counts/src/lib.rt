@@ -6,13 +6,16 @@ use dates::BadField;
 use errors::CountError;
 use errors::DateTimeError;
 use integers::Checked;
+use seconds::Counted;
 ghost use mathlib.Core.Path.{_≡_};
 ghost use Rattle.counts.specs.Said.{saidCounted, saidTime, saidDateTime, saidUnix, saidDuration, saidOrdering};
 ghost use Rattle.counts.specs.Counts.{newTime, fromDateTime, fromUnix, toUnix, overEpoch, added, taken, since, compared};
-
-pub mod dates;
-mod durations;
-mod epochs;
+pub use durations::Duration;
+pub use durations::DurationAnswer;
+pub use durations::Ordering;
+pub use durations::OrderingAnswer;
+pub use seconds::UnixAnswer;
+pub use seconds::UnixSeconds;
 
 // A reference that seconds count from, in seconds from 1970-01-01 00:00:00 TAI.
 pub struct Epoch(pub i64);
@@ -20,17 +23,9 @@ pub struct Epoch(pub i64);
 // TAI minus UTC, in seconds.
 pub struct LeapOffset(pub i64);
 
-// A count of Unix seconds.
-pub struct UnixSeconds(pub i64);
-
 // Seconds from an epoch, and nanoseconds that count forward from there.
 pub struct TaiTime {
     pub secs: i64,
-    pub nanos: u32,
-}
-
-pub struct Duration {
-    pub secs: u64,
     pub nanos: u32,
 }
 
@@ -48,18 +43,6 @@ impl Epoch {
     pub const TAI_1972_TIME: Epoch = Epoch(63072000);
 }
 
-// Seconds and nanoseconds of a result, or its refusal.
-pub enum Counted {
-    At(i64, u32),
-    Refused(CountError),
-}
-
-// Seconds of calendar fields, or their refusal.
-pub enum SecsAnswer {
-    At(i64),
-    Refused(DateTimeError),
-}
-
 pub enum TimeAnswer {
     At(TaiTime),
     Refused(CountError),
@@ -68,27 +51,6 @@ pub enum TimeAnswer {
 pub enum DateTimeAnswer {
     At(TaiTime),
     Refused(DateTimeError),
-}
-
-pub enum UnixAnswer {
-    At(UnixSeconds),
-    Refused(CountError),
-}
-
-pub enum DurationAnswer {
-    Lasts(Duration),
-    Refused(CountError),
-}
-
-pub enum Ordering {
-    Less,
-    Equal,
-    Greater,
-}
-
-pub enum OrderingAnswer {
-    Is(Ordering),
-    Refused(CountError),
 }
 
 // A result as a timestamp.
@@ -168,19 +130,19 @@ impl TaiTime {
     ) -> TimeAnswer
         ensures { λ r. ⌜ saidTime r ≡ fromUnix (epoch .0) (secs .0) nanos (leap .0) ⌝ }
     {
-        time_answer(epochs::from_unix(epoch.0, secs.0, nanos, leap.0))
+        time_answer(seconds::from_unix(epoch.0, secs.0, nanos, leap.0))
     }
 
     pub fn as_unix_secs(self, epoch: Epoch, leap: LeapOffset) -> UnixAnswer
         ensures { λ r. ⌜ saidUnix r ≡ toUnix (epoch .0) (self .secs) (self .nanos) (leap .0) ⌝ }
     {
-        epochs::to_unix(epoch.0, self.secs, self.nanos, leap.0)
+        seconds::to_unix(epoch.0, self.secs, self.nanos, leap.0)
     }
 
     pub fn to_tai_time(self, old: Epoch, new: Epoch) -> TimeAnswer
         ensures { λ r. ⌜ saidTime r ≡ overEpoch (old .0) (new .0) (self .secs) (self .nanos) ⌝ }
     {
-        time_answer(epochs::over_epoch(old.0, new.0, self.secs, self.nanos))
+        time_answer(seconds::over_epoch(old.0, new.0, self.secs, self.nanos))
     }
 
     pub fn checked_add(self, d: Duration) -> TimeAnswer

@@ -12,19 +12,19 @@ use Rattle.counts.specs.declared.TimeAnswer.{TimeAnswer}
 use Rattle.counts.specs.declared.TimeAnswer.the-variants as Time
 use Rattle.counts.specs.declared.DateTimeAnswer.{DateTimeAnswer}
 use Rattle.counts.specs.declared.DateTimeAnswer.the-variants as DateTime
-use Rattle.counts.specs.declared.SecsAnswer.{SecsAnswer}
-use Rattle.counts.specs.declared.SecsAnswer.the-variants as Secs
-use Rattle.counts.specs.declared.UnixAnswer.{UnixAnswer}
-use Rattle.counts.specs.declared.UnixAnswer.the-variants as Unix
-use Rattle.counts.specs.declared.DurationAnswer.{DurationAnswer}
-use Rattle.counts.specs.declared.DurationAnswer.the-variants as Lasting
-use Rattle.counts.specs.declared.OrderingAnswer.{OrderingAnswer}
-use Rattle.counts.specs.declared.OrderingAnswer.the-variants as Order
+use Rattle.dates.specs.declared.SecsAnswer.{SecsAnswer}
+use Rattle.dates.specs.declared.SecsAnswer.the-variants as Secs
+use Rattle.seconds.specs.declared.UnixAnswer.{UnixAnswer}
+use Rattle.seconds.specs.declared.UnixAnswer.the-variants as Unix
+use Rattle.durations.specs.declared.DurationAnswer.{DurationAnswer}
+use Rattle.durations.specs.declared.DurationAnswer.the-variants as Lasting
+use Rattle.durations.specs.declared.OrderingAnswer.{OrderingAnswer}
+use Rattle.durations.specs.declared.OrderingAnswer.the-variants as Order
 use Rattle.counts.specs.Said.{saidTime, saidSecs, saidDateTime, saidUnix, saidDuration, saidOrdering}
 use Rattle.reader.specs.declared.stamp.ReadAnswer.{ReadAnswer}
 use Rattle.reader.specs.declared.stamp.ReadAnswer.the-variants as Read
 use Rattle.reader.specs.Stamp.{saidRead}
-use Rattle.counts.proofs.Checks.{refuses-not}
+use Rattle.seconds.proofs.Checks.{refuses-not}
 use Rattle.demands.proofs.Passed.{gives-one}
 
 refuses-one : {A : Type 0} {r q : Refusal} → _≡_ {A = Outcome A} (refuses r) (refuses q) → r ≡ q

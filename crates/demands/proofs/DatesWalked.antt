@@ -14,8 +14,8 @@ use Rattle.calendar.specs.Walk.{Valid, date, monthLength}
 use Rattle.calendar.specs.Moments.{momentAt, ValidTime, secondsOf}
 use Rattle.calendar.proofs.Moments.{seconds-moment, moment-seconds, moment-valid}
 use Rattle.counts.specs.Counts.{check, withNanos, dateTimeSecs, fromDateTime}
-use Rattle.counts.proofs.Checks.{passed, refuses-not}
-use Rattle.counts.proofs.Fields.{Good, good-fields}
+use Rattle.seconds.proofs.Checks.{passed, refuses-not}
+use Rattle.dates.proofs.Fields.{Good, good-fields}
 use Rattle.demands.specs.Values.{moment, Reaches}
 use Rattle.demands.proofs.Passed.{with-nanos, gives-one}
 

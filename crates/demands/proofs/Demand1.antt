@@ -11,10 +11,10 @@ use Rattle.errors.specs.declared.ParseDateTimeError.{ParseDateTimeError}
 use Rattle.calendar.specs.Walk.{Valid, date, monthLength}
 use Rattle.counts.specs.declared.TimeAnswer.{TimeAnswer}
 use Rattle.counts.specs.declared.DateTimeAnswer.{DateTimeAnswer}
-use Rattle.counts.specs.declared.SecsAnswer.{SecsAnswer}
-use Rattle.counts.specs.declared.UnixAnswer.{UnixAnswer}
-use Rattle.counts.specs.declared.DurationAnswer.{DurationAnswer}
-use Rattle.counts.specs.declared.OrderingAnswer.{OrderingAnswer}
+use Rattle.dates.specs.declared.SecsAnswer.{SecsAnswer}
+use Rattle.seconds.specs.declared.UnixAnswer.{UnixAnswer}
+use Rattle.durations.specs.declared.DurationAnswer.{DurationAnswer}
+use Rattle.durations.specs.declared.OrderingAnswer.{OrderingAnswer}
 use Rattle.counts.specs.Said.{saidTime, saidSecs, saidDateTime, saidUnix, saidDuration, saidOrdering}
 use Rattle.counts.specs.Counts.{newTime, fromDateTime, fromUnix, toUnix, overEpoch, added, taken, since, compared}
 use Rattle.reader.specs.declared.date_time.DateTime.{DateTime}

@@ -13,7 +13,7 @@ use Rattle.calendar.specs.declared.Moment.{Moment}
 use Rattle.calendar.specs.Walk.{Valid}
 use Rattle.calendar.specs.Moments.{momentAt, ValidTime}
 use Rattle.counts.specs.Counts.{fromDateTime, exact, added, taken, since, compared}
-use Rattle.counts.specs.declared.Ordering.the-variants.{Less}
+use Rattle.durations.specs.declared.Ordering.the-variants.{Less}
 use Rattle.reader.specs.Stamp.{readText}
 use Rattle.printer.specs.declared.Precision.the-variants.{Default}
 use Rattle.printer.specs.Display.{timeText, displayed}

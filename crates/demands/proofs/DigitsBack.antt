@@ -10,7 +10,7 @@ use lib.ListN.{length}
 use borrow.Author.Tests.{le-leb, lt-ltb, ne-eqb, leb-true}
 use Rattle.fields.specs.Numbers.{beginsWith, isDigit, allDigits, decimalAfter, decimal, digitsUpTo, number}
 use Rattle.fields.specs.declared.numbers.Number.the-variants.{Value}
-use Rattle.counts.proofs.Checks.{both}
+use Rattle.seconds.proofs.Checks.{both}
 use Rattle.digits.specs.Digits.{digits}
 use Rattle.digits.proofs.Decimal.{digits-length}
 

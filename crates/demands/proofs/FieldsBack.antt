@@ -15,7 +15,7 @@ use Rattle.fields.specs.declared.delimited.Delimiter.the-variants.{Hyphen, Spac
 use Rattle.fields.specs.declared.delimited.Field.the-variants as Field
 use Rattle.fields.specs.declared.delimited.Seconds.the-variants as Seconds
 use Rattle.reader.specs.declared.date_time.Parsed.{Parsed}
-use Rattle.counts.proofs.Checks.{both}
+use Rattle.seconds.proofs.Checks.{both}
 use Rattle.fields.proofs.Tenths.{good-fraction}
 use Rattle.digits.specs.Digits.{digits}
 use Rattle.digits.proofs.Decimal.{digits-length}

@@ -10,7 +10,7 @@ use lib.ListN.{length}
 use borrow.Author.Tests.{eqb-true}
 use Rattle.fields.specs.Numbers.{isDigit, allDigits}
 use Rattle.fields.specs.Fields.{nanoseconds}
-use Rattle.counts.proofs.Checks.{both}
+use Rattle.seconds.proofs.Checks.{both}
 use Rattle.fields.proofs.Tenths.{weighed, weighed-nanoseconds}
 use Rattle.digits.specs.Digits.{digits}
 use Rattle.digits.proofs.Decimal.{digits-length}

@@ -14,7 +14,7 @@ use Rattle.errors.specs.Refusals.{Refusal, Outcome, gives, refuses, refusal}
 use Rattle.printer.specs.declared.Precision.{Precision}
 use Rattle.printer.specs.Line.{byRoom}
 use Rattle.printer.specs.Display.{timeText, displayed}
-use Rattle.counts.proofs.Checks.{refuses-not}
+use Rattle.seconds.proofs.Checks.{refuses-not}
 use Rattle.demands.proofs.Passed.{gives-one}
 
 -- the outcome and the line, by the three tests: nanoseconds below 10^9, a place beyond the line, want of room

@@ -14,10 +14,10 @@ use Rattle.errors.specs.Refusals.{refusal, gives}
 use Rattle.calendar.specs.Moments.{momentAt}
 use Rattle.calendar.proofs.Moments.{moment-order}
 use Rattle.counts.specs.Counts.{exact, order, compared}
-use Rattle.counts.specs.declared.Ordering.the-variants.{Less, Equal, Greater}
+use Rattle.durations.specs.declared.Ordering.the-variants.{Less, Equal, Greater}
 use Rattle.demands.specs.Values.{EarlierReading, by-moment, by-nanos}
 use Rattle.demands.proofs.Passed.{gives-one}
-use Rattle.counts.proofs.Checks.{passed}
+use Rattle.seconds.proofs.Checks.{passed}
 
 split : (secs : ℤ) (nanos : ℕ) → nanos < 1000000000 → Floor 1000000000 (exact secs nanos) secs nanos
 unfolding exact

@@ -5,7 +5,7 @@ use native.Mathlib.Omega.{arith}
 use lib.IntN.{ℤ}
 use Rattle.errors.specs.Refusals.{Refusal, Outcome, gives, refuses, refusesInRangeError}
 use Rattle.counts.specs.Counts.{withNanos}
-use Rattle.counts.proofs.Checks.{refuses-not}
+use Rattle.seconds.proofs.Checks.{refuses-not}
 
 pub gives-one : {A : Type 0} {x y : A} → gives x ≡ gives y → x ≡ y
 gives-one e = cc

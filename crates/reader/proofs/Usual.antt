@@ -13,7 +13,7 @@ use lib.ListN.{length, drop, getD, length-drop, List·getD-eq-default}
 use lib.Seq.{drop-cons, drop-drop, getD-drop}
 use borrow.Author.Tests.{ne-eqb, le-leb, lt-ltb}
 use Rattle.calendar.proofs.Table.{below}
-use Rattle.counts.proofs.Checks.{both}
+use Rattle.seconds.proofs.Checks.{both}
 use Rattle.fields.specs.Numbers.{beginsWith, isDigit, allDigits, pairAt, decimalAfter, digitsUpTo, number}
 use Rattle.fields.specs.Fields.{isDelimiter, width, twoDigits, fraction, seconds}
 use Rattle.fields.specs.declared.delimited.Delimiter.{Delimiter}

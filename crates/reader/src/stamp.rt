@@ -2,9 +2,9 @@
 use crate::date_time::Parsed;
 use crate::date_time::parse_date_time;
 use counts::Epoch;
-use counts::SecsAnswer;
 use counts::TaiTime;
-use counts::dates::date_time_secs;
+use dates::SecsAnswer;
+use dates::date_time_secs;
 use errors::ParseDateTimeError;
 ghost use mathlib.Core.Path.{_≡_};
 ghost use Rattle.reader.specs.Stamp.{saidRead, readText};

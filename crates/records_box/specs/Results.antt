@@ -4,8 +4,8 @@ use Prim.Native.Nat.{ℕ, zero, suc}
 use lib.IntN.{ℤ, pos, negsuc, natAbs}
 use lib.ListN.{getD}
 use Rattle.errors.specs.Refusals.{Refusal, Outcome, gives, refuses, refusesInRangeError}
-use Rattle.counts.specs.declared.Ordering.{Ordering}
-use Rattle.counts.specs.declared.Ordering.the-variants.{Less, Equal, Greater}
+use Rattle.durations.specs.declared.Ordering.{Ordering}
+use Rattle.durations.specs.declared.Ordering.the-variants.{Less, Equal, Greater}
 use Rattle.calendar.specs.declared.Moment.{Moment}
 use Rattle.printer.specs.declared.Precision.{Precision}
 use Rattle.printer.specs.declared.Precision.the-variants.{Default, Digits}

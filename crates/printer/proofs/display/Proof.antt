@@ -11,7 +11,7 @@ use denote.Ref.{now}
 use Rattle.calendar.specs.declared.Moment.{Moment}
 use Rattle.calendar.specs.Moments.{momentAt}
 use Rattle.calendar.proofs.Moments.{year-within}
-use Rattle.counts.proofs.Checks.{bad, good}
+use Rattle.seconds.proofs.Checks.{bad, good}
 use Rattle.printer.specs.Text.{text}
 use Rattle.printer.specs.Line.{answer, lineAfter}
 use Rattle.printer.specs.Display.{stamp, timeText, displayed}

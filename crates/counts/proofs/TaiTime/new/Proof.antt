@@ -5,7 +5,7 @@ use mir.Facts.{toZ-ofZ}
 use mir.Syntax.{w64}
 use Rattle.errors.specs.Refusals.{gives}
 use Rattle.counts.specs.Counts.{newTime}
-use Rattle.counts.proofs.Checks.{bad, good}
+use Rattle.seconds.proofs.Checks.{bad, good}
 use Rattle.counts.proofs.TaiTime.new.Statement.{statement}
 use Rattle.counts.proofs.TaiTime.new.Tie as tie
 

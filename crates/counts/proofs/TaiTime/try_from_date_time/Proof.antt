@@ -15,7 +15,7 @@ use Rattle.calendar.specs.Walk.{date}
 use Rattle.calendar.specs.Moments.{secondsOf}
 use Rattle.counts.specs.Said.{saidField}
 use Rattle.counts.specs.Counts.{withNanos, fieldsChecked, dateTimeSecs, fromDateTime}
-use Rattle.counts.proofs.Fields.{at-field, field-refused, good-fields, secs-given, secs-refused}
+use Rattle.dates.proofs.Fields.{at-field, field-refused, good-fields, secs-given, secs-refused}
 use Rattle.counts.proofs.TaiTime.try_from_date_time.Statement.{statement}
 use Rattle.counts.proofs.TaiTime.try_from_date_time.Tie as tie
 

@@ -1,0 +1,75 @@
+// Counts from one reference to another. Each partial sum must be an i64, as in the Rust.
+use errors::CountError;
+use integers::Checked;
+use integers::checked_add;
+use integers::checked_sub;
+ghost use mathlib.Core.Path.{_≡_};
+ghost use Rattle.seconds.specs.Said.{saidCounted, saidUnix};
+ghost use Rattle.seconds.specs.Counts.{fromUnix, minusPlus, toUnix, overEpoch};
+
+// A count of Unix seconds.
+pub struct UnixSeconds(pub i64);
+
+// Seconds and nanoseconds of a result, or its refusal.
+pub enum Counted {
+    At(i64, u32),
+    Refused(CountError),
+}
+
+pub enum UnixAnswer {
+    At(UnixSeconds),
+    Refused(CountError),
+}
+
+// Unix to timestamp: + carry, + leap, - epoch.
+pub fn from_unix(epoch: i64, unix: i64, nanos: u32, leap: i64) -> Counted
+    ensures { λ r. ⌜ saidCounted r ≡ fromUnix epoch unix nanos leap ⌝ }
+{
+    let carry = (nanos / 1000000000) as i64;
+    let Checked::Exact(carried) = checked_add(unix, carry) else {
+        return Counted::Refused(CountError::NotRepresentable);
+    };
+    let Checked::Exact(atomic) = checked_add(carried, leap) else {
+        return Counted::Refused(CountError::NotRepresentable);
+    };
+    let Checked::Exact(secs) = checked_sub(atomic, epoch) else {
+        return Counted::Refused(CountError::NotRepresentable);
+    };
+    Counted::At(secs, nanos % 1000000000)
+}
+
+// a - less + more, where that and a - less are i64's.
+fn minus_plus(a: i64, less: i64, more: i64) -> Checked
+    ensures { λ r. ⌜ r ≡ minusPlus a less more ⌝ }
+{
+    let Checked::Exact(between) = checked_sub(a, less) else {
+        return Checked::Outside;
+    };
+    checked_add(between, more)
+}
+
+// Timestamp to Unix: - leap, + epoch.
+pub fn to_unix(epoch: i64, secs: i64, nanos: u32, leap: i64) -> UnixAnswer
+    ensures { λ r. ⌜ saidUnix r ≡ toUnix epoch secs nanos leap ⌝ }
+{
+    if 999999999 < nanos {
+        return UnixAnswer::Refused(CountError::BadNanos);
+    }
+    let Checked::Exact(unix) = minus_plus(secs, leap, epoch) else {
+        return UnixAnswer::Refused(CountError::NotRepresentable);
+    };
+    UnixAnswer::At(UnixSeconds(unix))
+}
+
+// Change of epoch: old - new, + seconds.
+pub fn over_epoch(old: i64, new: i64, secs: i64, nanos: u32) -> Counted
+    ensures { λ r. ⌜ saidCounted r ≡ overEpoch old new secs nanos ⌝ }
+{
+    if 999999999 < nanos {
+        return Counted::Refused(CountError::BadNanos);
+    }
+    let Checked::Exact(moved) = minus_plus(old, new, secs) else {
+        return Counted::Refused(CountError::NotRepresentable);
+    };
+    Counted::At(moved, nanos)
+}
