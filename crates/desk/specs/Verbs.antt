@@ -41,7 +41,7 @@ precisionAt i s = cond (alike (wordAt i s) (bytes "-")) Default (Digits (u64 i s
 abbrev pub hexAt : ℕ → List ℕ → List ℕ
 hexAt i s = hexBytes (wordAt i s)
 
-unfoldable pub textAt : ℕ → List ℕ → List ℕ
+abbrev pub textAt : ℕ → List ℕ → List ℕ
 textAt i s = drop 1 (restAt i s)
 
 -- the answer with lent bytes, which stand last as they are then

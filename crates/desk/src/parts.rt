@@ -1,39 +1,23 @@
 // The words from place i on as values of the entries' types.
 use counts::Duration;
 use counts::Epoch;
-use counts::LeapOffset;
 use counts::TaiTime;
-use counts::UnixSeconds;
-use fields::bytes::skip;
 use printer::Precision;
 use words::values::epoch_at;
 use words::values::i64_at;
 use words::values::u32_at;
 use words::values::u64_at;
-use words::words::rest_at;
 use words::words::same;
 use words::words::word_at;
 ghost use mathlib.Core.Path.{_≡_};
 ghost use Prim.Native.Nat.{_+_, _≤_};
 ghost use Rattle.words.specs.Numbers.{epochAt, wholeAt, naturalAt};
-ghost use Rattle.desk.specs.Verbs.{precisionAt, textAt};
+ghost use Rattle.desk.specs.Verbs.{precisionAt};
 
 pub(crate) fn epoch_word(s: &[u8], i: usize) -> Epoch
     ensures { λ r. ⌜ r .0 ≡ epochAt i (now (s .entry)) ⌝ }
 {
     Epoch(epoch_at(s, i))
-}
-
-pub(crate) fn leap_word(s: &[u8], i: usize) -> LeapOffset
-    ensures { λ r. ⌜ r .0 ≡ wholeAt 9223372036854775807 i (now (s .entry)) ⌝ }
-{
-    LeapOffset(i64_at(s, i))
-}
-
-pub(crate) fn unix_word(s: &[u8], i: usize) -> UnixSeconds
-    ensures { λ r. ⌜ r .0 ≡ wholeAt 9223372036854775807 i (now (s .entry)) ⌝ }
-{
-    UnixSeconds(i64_at(s, i))
 }
 
 pub(crate) fn time_at(s: &[u8], i: usize) -> TaiTime
@@ -66,11 +50,4 @@ pub(crate) fn precision_at(s: &[u8], i: usize) -> Precision
         return Precision::Default;
     }
     Precision::Digits(u64_at(s, i) as usize)
-}
-
-// All behind the blank.
-pub(crate) fn text_at(s: &[u8], i: usize) -> &[u8]
-    ensures { λ r. ⌜ now r ≡ textAt i (now (s .entry)) ⌝ }
-{
-    skip(rest_at(s, i), 1)
 }

@@ -12,21 +12,7 @@ ghost use mathlib.Core.Path.{_≡_};
 ghost use Prim.Native.Nat.{_+_, _≤_, _<_};
 ghost use lib.ListN.{length};
 ghost use Rattle.texts.specs.Texts.{Put};
-ghost use Rattle.desk.specs.Verbs.{answerOf};
 ghost use Rattle.desk.specs.Answers.{answerText, answered};
-
-// What the verb of a number answers.
-fn put_verb(verb: usize, s: &[u8], out: &mut [u8]) -> usize
-    requires { ⌜ (length (now s) ≤ 65535) × (length (now s) + 128 ≤ length (now out)) ⌝ }
-    ensures { λ r. ⌜ Put (now (out .entry)) 0 (answerOf verb (now (s .entry))) (now (out .exit)) r ⌝ }
-    ensures { λ r. ⌜ r < length (now (s .entry)) + 128 ⌝ }
-{
-    match verb {
-        0 => lent::print(s, out),
-        1 => lent::line(s, out),
-        _ => put_said(out, said_of(verb, s)),
-    }
-}
 
 fn put_answer(request: &[u8], out: &mut [u8]) -> usize
     requires { ⌜ length (now request) + 128 ≤ length (now out) ⌝ }
@@ -44,7 +30,11 @@ fn put_answer(request: &[u8], out: &mut [u8]) -> usize
     if !row_fits(s, word_at(table, 2 * verb + 1)) {
         return put(out, 0, b"malformed");
     }
-    put_verb(verb, s, out)
+    match verb {
+        0 => lent::print(s, out),
+        1 => lent::line(s, out),
+        _ => put_said(out, said_of(verb, s)),
+    }
 }
 
 // The answer line of a request, its LF included, at the front of out, and its length. It has at most 128 bytes more than

@@ -1,40 +1,26 @@
 // The verbs whose answer is said in one form, by their numbers in the table.
 use crate::parts::duration_at;
 use crate::parts::epoch_word;
-use crate::parts::leap_word;
-use crate::parts::text_at;
 use crate::parts::time_at;
-use crate::parts::unix_word;
 use answers::said;
 use answers::said::Said;
+use counts::LeapOffset;
 use counts::TaiTime;
+use counts::UnixSeconds;
+use fields::bytes::skip;
 use reader::from_str;
 use words::hex::unhex;
 use words::values::i32_at;
 use words::values::i64_at;
 use words::values::u8_at;
 use words::values::u32_at;
+use words::words::rest_at;
 use words::words::word_at;
 ghost use mathlib.Core.Path.{_≡_};
 ghost use Prim.Native.Nat.{_≤_};
 ghost use lib.ListN.{length};
 ghost use Rattle.answers.specs.Said.{saidText};
 ghost use Rattle.desk.specs.Verbs.{answerOf};
-
-fn date(s: &[u8]) -> Said
-    ensures { λ r. ⌜ saidText r ≡ answerOf 3 (now (s .entry)) ⌝ }
-{
-    said::date_time(TaiTime::try_from_date_time(
-        epoch_word(s, 0),
-        i32_at(s, 1),
-        u8_at(s, 2),
-        u8_at(s, 3),
-        u8_at(s, 4),
-        u8_at(s, 5),
-        u8_at(s, 6),
-        u32_at(s, 7),
-    ))
-}
 
 fn read_hex(s: &[u8]) -> Said
     requires { ⌜ length (now s) ≤ 65535 ⌝ }
@@ -51,20 +37,29 @@ pub(crate) fn said_of(verb: usize, s: &[u8]) -> Said
 {
     match verb {
         2 => said::time(TaiTime::new(i64_at(s, 0), u32_at(s, 1))),
-        3 => date(s),
+        3 => said::date_time(TaiTime::try_from_date_time(
+            epoch_word(s, 0),
+            i32_at(s, 1),
+            u8_at(s, 2),
+            u8_at(s, 3),
+            u8_at(s, 4),
+            u8_at(s, 5),
+            u8_at(s, 6),
+            u32_at(s, 7),
+        )),
         4 => said::time(TaiTime::try_from_unix_timestamp(
             epoch_word(s, 0),
-            unix_word(s, 1),
+            UnixSeconds(i64_at(s, 1)),
             u32_at(s, 2),
-            leap_word(s, 3),
+            LeapOffset(i64_at(s, 3)),
         )),
-        5 => said::unix(time_at(s, 1).as_unix_secs(epoch_word(s, 0), leap_word(s, 3))),
+        5 => said::unix(time_at(s, 1).as_unix_secs(epoch_word(s, 0), LeapOffset(i64_at(s, 3)))),
         6 => said::time(time_at(s, 2).to_tai_time(epoch_word(s, 0), epoch_word(s, 1))),
         7 => said::time(time_at(s, 0).checked_add(duration_at(s, 2))),
         8 => said::time(time_at(s, 0).checked_sub(duration_at(s, 2))),
         9 => said::duration(time_at(s, 0).checked_duration_since(time_at(s, 2))),
         10 => said::ordering(time_at(s, 0).cmp(time_at(s, 2))),
-        11 => said::read(from_str(text_at(s, 1), epoch_word(s, 0))),
+        11 => said::read(from_str(skip(rest_at(s, 1), 1), epoch_word(s, 0))),
         12 => read_hex(s),
         _ => Said::Malformed,
     }

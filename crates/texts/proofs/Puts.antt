@@ -69,10 +69,6 @@ unfolding digitPairs
 pairs-length [] = refl
 pairs-length (b ∷ s) = omega (arith, pairs-length s)
 
--- a number that is none of those counted up to now
-pub past : {k n : ℕ} → k ≤ n → (n ≡ k → ⊥) → suc k ≤ n
-past h e = omega arith
-
 -- a text at the front, as an answer says it
 pub put-front : {s l : List ℕ} {r : ℕ} {text : List ℕ} → Put s 0 text l r → length text ≤ length s → _≡_ {A = ℕ × List ℕ} (r, l) (length text, text ++ drop (length text) s)
 put-front {s} {l} {r} {text} a h =

@@ -8,11 +8,8 @@ use Rattle.desk.specs.Verbs.{answerOf}
 use Rattle.desk.proofs.lent.line.Statement.{statement}
 use Rattle.desk.proofs.lent.line.Tie as tie
 
-returns : tie.Need-returns
-unfolding answerOf
-returns c = let b = simp length-take at (c .before .before .before .print-in .ensures .1) in let e = ap length (c .before .before .before .before .before .before .before .before .before .before .before .before .before .word-at .ensures) in (rw (← c .before .before .before .before .before .before .before .epoch-word .ensures, ← c .before .before .before .before .before .before .before .before .before .time-at .ensures .0, ← c .before .before .before .before .before .before .before .before .before .time-at .ensures .1, ← c .before .before .before .before .before .before .precision-at .ensures, ← c .before .before .before .before .before .before .before .before .u64-at .ensures, ← c .before .before .before .before .before .before .before .before .before .before .before .before .before .word-at .ensures, ← c .before .before .before .before .before .before .before .before .before .before .before .unhex .ensures .front) (c .before .before .before .print-in .ensures .0), omega (arith, word-within 5 (c .before .before .before .before .before .before .before .before .before .before .before .before .before .before .before .before .args .s .now), c .before .before .before .before .before .before .before .before .before .before .before .unhex .ensures .half))
-
 pub line-spec : {M : Type 1} → statement M
+unfolding answerOf
 line-spec =
     tie.close
     (tie.spec
@@ -27,4 +24,4 @@ line-spec =
     (λ c. rw length-take (omega (arith, c .before .before .before .before .before .before .unhex .ensures .within)))
     (λ c κs. let e = ap length (c .before .before .before .before .before .before .before .before .before .word-at .ensures) in simp length-take (omega (arith, word-within 5 (c .before .before .before .before .before .before .before .before .before .before .before .before .args .s .now), c .before .before .before .before .before .before .before .unhex .ensures .half)))
     (λ c. search needs)
-    returns)
+    (λ c. let b = simp length-take at (c .before .before .before .print-in .ensures .1) in let e = ap length (c .before .before .before .before .before .before .before .before .before .before .before .before .before .word-at .ensures) in (rw (← c .before .before .before .before .before .before .before .epoch-word .ensures, ← c .before .before .before .before .before .before .before .before .before .time-at .ensures .0, ← c .before .before .before .before .before .before .before .before .before .time-at .ensures .1, ← c .before .before .before .before .before .before .precision-at .ensures, ← c .before .before .before .before .before .before .before .before .u64-at .ensures, ← c .before .before .before .before .before .before .before .before .before .before .before .before .before .word-at .ensures, ← c .before .before .before .before .before .before .before .before .before .before .before .unhex .ensures .front) (c .before .before .before .print-in .ensures .0), omega (arith, word-within 5 (c .before .before .before .before .before .before .before .before .before .before .before .before .before .before .before .before .args .s .now), c .before .before .before .before .before .before .before .before .before .before .before .unhex .ensures .half))))

@@ -1,12 +1,14 @@
 -- `desk::request::put_answer`: the number of the verb, its row, its answer.
-use mathlib.Core.Path.{_≡_, sym, ap, _∙_}
+use mathlib.Core.Path.{_≡_, ap}
+use mathlib.Core.Bool.{true}
 use native.Mathlib.Omega.{arith}
 use lib.ListN.{length, length-take, length-drop}
 use borrow.Author.Needs.{needs}
 use borrow.Author.Tests.{not-true, not-false}
+use Rattle.desk.specs.Verbs.{answerOf}
 use Rattle.desk.specs.Answers.{answerText}
 use Rattle.desk.proofs.Answered.{answer-too-long}
-use Rattle.desk.proofs.Table.{numbered, answer-by}
+use Rattle.desk.proofs.Table.{after, numbered, answer-by}
 use Rattle.desk.proofs.request.put_answer.Statement.{statement}
 use Rattle.desk.proofs.request.put_answer.Tie as tie
 
@@ -19,6 +21,12 @@ by k =
     let s : tie.After-skip = search in
     let e = rw (w .word-length .ensures .0) at (k .row-of .ensures .0) in
     rw (s .skip .ensures, w .word-length .ensures .0) (answer-by _ _ (w .before .if1 .left) e)
+
+-- and where its words fit its row
+fitted : (f : tie.After-row-fits) → f .row-fits .result ≡ true →
+    let n = f .before .before .before .before .before .before .before in
+    answerText (n .before .before .before .before .before .args .request .now) ≡ answerOf (f .before .before .before .row-of .result) (n .skip .result .now)
+fitted f e = rw (by (search), ← f .before .word-at .ensures, ← f .row-fits .ensures, e)
 
 pub put-answer-spec : {M : Type 1} → statement M
 put-answer-spec =
@@ -40,6 +48,13 @@ put-answer-spec =
     (λ c κs. search needs)
     (λ c. search needs)
     (λ c. let f : tie.After-row-fits = search in (rw (by (search), ← f .before .word-at .ensures, ← f .row-fits .ensures, not-true (f .row-fits .result) (c .before .before .before .before .before .if2 .taken)) (c .before .before .put2 .ensures), omega (arith, c .before .before .put2 .ensures .place)))
-    (λ c κs. let k = simp length-drop at (ap length (c .before .before .before .before .before .before .before .before .before .skip .ensures)) in (omega arith, omega arith))
+    (λ c κs. search needs)
+    (λ c κs. let k = simp length-drop at (ap length (c .before .before .before .before .before .before .before .before .before .before .skip .ensures)) in (omega arith, omega arith))
+    (λ c κs. let no = c .before .match .rest in let k = simp length-drop at (ap length (c .before .before .before .before .before .before .before .before .before .before .skip .ensures)) in (after 1 (after 0 (omega arith) (no .0 .1)) (no .1), omega arith))
+    (λ c κs. search needs)
     (λ c. search needs)
-    (λ c. let f : tie.After-row-fits = search in let k = simp length-drop at (ap length (c .before .before .before .before .before .before .before .before .before .before .before .before .skip .ensures)) in (rw (by (search), ← f .before .word-at .ensures, ← f .row-fits .ensures, not-false (f .row-fits .result) (c .before .before .before .before .if2 .left)) (c .before .before .put-verb .ensures .0), omega (arith, c .before .before .put-verb .ensures .1))))
+    (λ c. (rw (fitted (search) (not-false _ (c .before .before .before .before .before .if2 .left)), c .before .before .before .before .match .keys1) (c .before .before .print .ensures .0), omega (arith, c .before .before .print .ensures .1)))
+    (λ c. search needs)
+    (λ c. let k = simp length-drop at (ap length (c .before .before .before .before .before .before .before .before .before .before .before .before .before .skip .ensures)) in (rw (fitted (search) (not-false _ (c .before .before .before .before .before .if2 .left)), c .before .before .before .before .match .keys2) (c .before .before .line .ensures .0), omega (arith, c .before .before .line .ensures .1)))
+    (λ c. search needs)
+    (λ c. (rw (fitted (search) (not-false _ (c .before .before .before .before .before .before .if2 .left)), ← c .before .before .before .said-of .ensures) (c .before .before .put-said .ensures .0), omega (arith, c .before .before .put-said .ensures .1))))

@@ -7,16 +7,6 @@ use Rattle.words.proofs.ByRow.{epoch-by-row}
 use Rattle.words.proofs.tables.parse_epoch.Statement.{statement}
 use Rattle.words.proofs.tables.parse_epoch.Tie as tie
 
-returns : tie.Need-returns
-returns c =
-    let k = c .before .before .before .before .row-of in
-    rw (← epoch-by-row _, ← k .ensures .0, lt-ltb (k .result) 6 (c .before .before .before .if1 .taken), ← c .before .word-at .ensures) (c .parse-signed .ensures)
-
-returns-2 : tie.Need-returns-2
-returns-2 c =
-    let k = c .before .before .row-of in
-    rw (← epoch-by-row _, ← k .ensures .0, le-ltb (k .result) 6 (c .before .if1 .left)) (c .parse-signed2 .ensures)
-
 pub parse-epoch-spec : {M : Type 1} → statement M
 parse-epoch-spec =
     tie.close
@@ -26,6 +16,8 @@ parse-epoch-spec =
     (λ c. search needs)
     (λ c κs. search needs)
     (λ c κs. search needs)
-    returns
+    (λ c. let k = c .before .before .before .before .row-of in
+    rw (← epoch-by-row _, ← k .ensures .0, lt-ltb (k .result) 6 (c .before .before .before .if1 .taken), ← c .before .word-at .ensures) (c .parse-signed .ensures))
     (λ c κs. search needs)
-    returns-2)
+    (λ c. let k = c .before .before .row-of in
+    rw (← epoch-by-row _, ← k .ensures .0, le-ltb (k .result) 6 (c .before .if1 .left)) (c .parse-signed2 .ensures)))

@@ -7,12 +7,6 @@ use Rattle.words.specs.Numbers.{naturalAt}
 use Rattle.words.proofs.values.natural_at.Statement.{statement}
 use Rattle.words.proofs.values.natural_at.Tie as tie
 
-returns : tie.Need-returns
-unfolding naturalAt
-returns c =
-    let e = rw (c .before .before .before .before .word-at .ensures) at (sym (c .before .before .before .parse-unsigned .ensures) ∙ c .before .v .given .1) in
-    (rw e, unsigned-small _ _ e)
-
 pub natural-at-spec : {M : Type 1} → statement M
 unfolding naturalAt
 natural-at-spec =
@@ -22,5 +16,6 @@ natural-at-spec =
     (λ c κs. search needs)
     (λ c. search needs)
     (λ c. search needs)
-    returns
+    (λ c. let e = rw (c .before .before .before .before .word-at .ensures) at (sym (c .before .before .before .parse-unsigned .ensures) ∙ c .before .v .given .1) in
+    (rw e, unsigned-small _ _ e))
     (λ c. (rw (← c .before .before .before .word-at .ensures, ← c .before .before .parse-unsigned .ensures, c .enum-told .given .1), omega arith)))
