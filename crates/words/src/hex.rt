@@ -46,7 +46,9 @@ pub fn unhex(hex: &[u8], bytes: &mut [u8]) -> usize
     let mut i = 0;
     let mut n = 0;
     while i + 1 < hex.len() {
-        bytes[n] = digit_value(hex[i]) * 16 + digit_value(hex[i + 1]);
+        let high = digit_value(hex[i]);
+        let low = digit_value(hex[i + 1]);
+        bytes[n] = high * 16 + low;
         n += 1;
         i += 2;
     }
