@@ -1,7 +1,7 @@
 -- HEX: an even number of lower-case hexadecimal digits, and `-` stands for none.
 use mathlib.Core.Bool.{Bool, true, cond, _&&_}
-use mathlib.Core.List.{List, [], _∷_, map}
-use mathlib.Core.Path.{_≡_, refl}
+use mathlib.Core.List.{List, [], _∷_}
+use mathlib.Core.Path.{_≡_}
 use Prim.Native.Nat.{ℕ, _+_, _*_, _/_, _%_, _≤_}
 use lib.Dec.{eqb, ltb}
 use lib.ListN.{length, take, getD}
@@ -14,10 +14,6 @@ digitOf v = getD (bytes "0123456789abcdef") v 0
 -- the value of a digit: the lower four bits of `0` (48) to `9` (57), and 9 more for `a` (97) to `f` (102); below 16 for every byte
 abbrev pub digitValue : ℕ → ℕ
 digitValue x = (x % 16 + x / 64 * 9) % 16
-
--- so the sixteen digits have the values 0 to 15
-pub values : map digitValue (bytes "0123456789abcdef") ≡ 0 ∷ 1 ∷ 2 ∷ 3 ∷ 4 ∷ 5 ∷ 6 ∷ 7 ∷ 8 ∷ 9 ∷ 10 ∷ 11 ∷ 12 ∷ 13 ∷ 14 ∷ 15 ∷ []
-values = refl
 
 -- a byte is a digit if it is that of its value
 abbrev pub isHexDigit : ℕ → Bool
