@@ -6,7 +6,7 @@ use Prim.Native.Nat.{ℕ, _+_, _*_, _≤_}
 use native.Mathlib.Omega.{arith}
 use lib.ListN.{length, take, drop, List·getD-eq-default}
 use borrow.Author.Tests.{le-ltb}
-use Rattle.words.specs.Words.{bytes, wordLength, alike, fieldLength, fieldWord, restAt, wordAt}
+use Rattle.words.specs.Words.{bytes, wordLength, fieldLength, fieldWord, restAt, wordAt}
 use Rattle.words.specs.Tables.{rowFrom}
 use Rattle.words.specs.Rows.{fits}
 use Rattle.words.proofs.ByRow.{byRow, by-row}

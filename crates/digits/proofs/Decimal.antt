@@ -3,27 +3,17 @@ use mathlib.Core.Path.{_≡_, refl, sym, ap, _∙_}
 use mathlib.Core.List.{List, _++_, append-assoc, append-nil}
 use Prim.Native.Nat.{ℕ, zero, suc, _+_, _-_, _*_, _/_, _%_, _^_, _<_, _≤_}
 use native.Mathlib.Nat.{pow-suc, pow-succ', pow-zero, div-one, div-div-eq-div-mul, add-suc, add-zero, mul-assoc, div-add-mod'}
-use native.Mathlib.Numerals.{sub-one}
 use native.Mathlib.Omega.{arith}
 use lib.Pow.{pow-add}
-use lib.ListN.{length, set, length-append}
+use lib.ListN.{length, length-append}
 use lib.Seq.{sets}
 use Rattle.digits.specs.Digits.{digits}
-use Rattle.digits.proofs.Stores.{sets-append, sets-set, sets-sets}
+use Rattle.digits.proofs.Stores.{sets-append, sets-sets}
 
 pub digits-length : (w n : ℕ) → length (digits w n) ≡ w
 unfolding digits
 digits-length zero n = refl
 digits-length (suc w) n = length-append (digits w (n / 10)) _ ∙ rw (digits-length w (n / 10)) (omega arith)
-
--- the last digit may be stored first
-pub last-first : (l : List ℕ) (at w n : ℕ) → 0 < w → sets l at (digits w n) ≡ sets (set l (at + (w - 1)) (48 + n % 10)) at (digits (w - 1) (n / 10))
-unfolding digits
-last-first l at zero n h = absurd (omega arith)
-last-first l at (suc w) n h =
-    let e = digits-length w (n / 10) in
-    rw sub-one
-    (sets-append l at (digits w (n / 10)) _ ∙ rw e (sym (sets-set l at (digits w (n / 10)) (at + w) (48 + n % 10) (omega arith))))
 
 -- what a multiple of 10 ^ w adds is not seen in the last w digits
 above : (w q n : ℕ) → digits w (q * 10 ^ w + n) ≡ digits w n

@@ -1,7 +1,6 @@
 // Texts, numbers and HEX, written from a place on. Each function answers with the place behind what it wrote.
 use integers::to_bits;
 use words::hex::digit;
-ghost use mathlib.Core.Path.{_≡_};
 ghost use mathlib.Core.List.{_++_};
 ghost use Prim.Native.Nat.{_+_, _*_, _≤_, _<_};
 ghost use lib.ListN.{length};

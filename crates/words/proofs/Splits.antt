@@ -46,7 +46,6 @@ module _ (s t : List ℕ) (i : ℕ) (h : i < length s) (g : i < length t) where
   unfolding alike
   alike-more e = rw (drop-cons s i 0 h, drop-cons t i 0 g, eq-eqb _ _ e, add-one)
 
--- ---- a field: a blank and a word
 pub field-blank : (s : List ℕ) → beginsWith 32 s ≡ true → 1 + wordLength (drop 1 s) ≡ fieldLength s
 unfolding beginsWith fieldLength
 field-blank [] e = let z : _≡_ {A = ℕ} 0 1 = cc in absurd (omega arith)

@@ -1,5 +1,5 @@
 -- `desk::lent::print`: the text's bytes are put behind `ok ` (`printed`).
-use mathlib.Core.Path.{sym, ap, _∙_}
+use mathlib.Core.Path.{ap}
 use native.Mathlib.Omega.{arith}
 use lib.ListN.{length-take}
 use borrow.Author.Needs.{needs}
