@@ -3,7 +3,7 @@ use mathlib.Core.Bool.{cond}
 use mathlib.Core.List.{List, [], _∷_, _++_}
 use Prim.Native.Nat.{ℕ}
 use Prim.Native.String.{String}
-use lib.IntN.{ℤ}
+use lib.IntN.{ℤ, pos, negsuc}
 use lib.ListN.{drop, getD}
 use Rattle.errors.specs.Refusals.{Outcome, gives}
 use Rattle.counts.specs.Counts.{goodNanos, newTime, fromDateTime, fromUnix, toUnix, overEpoch, added, taken, since, compared}
@@ -11,38 +11,52 @@ use Rattle.reader.specs.Stamp.{readText}
 use Rattle.printer.specs.declared.Precision.{Precision}
 use Rattle.printer.specs.declared.Precision.the-variants.{Default, Digits}
 use Rattle.printer.specs.Display.{timeText, displayed}
-use Rattle.words.specs.Words.{bytes, alike, restAt, wordAt}
-use Rattle.words.specs.Numbers.{epochAt, wholeAt, naturalAt}
+use Rattle.words.specs.Words.{bytes, alike, byWord, restAt, wordAt}
+use Rattle.words.specs.Numbers.{wholeAt, naturalAt}
 use Rattle.words.specs.Hex.{hexBytes}
 use Rattle.words.specs.Rows.{fits}
 use Rattle.texts.specs.Texts.{natural, integer, hexText}
 use Rattle.answers.specs.Answers.{line, timeLine, durationLine, orderText, malformed}
 
--- the word i behind the verb, as a number of its type
-abbrev i64 : ℕ → List ℕ → ℤ
-i64 = wholeAt 9223372036854775807
+-- the epochs that have names
+abbrev pub epochs : List (String × ℤ)
+epochs =
+    ("monotonic", pos 0)
+    ∷ ("gps", pos 315964819)
+    ∷ ("gst", pos 935280019)
+    ∷ ("bdt", pos 1136073633)
+    ∷ ("tai1958", negsuc 378691199)
+    ∷ ("tai1972", pos 63072000)
+    ∷ []
 
-abbrev i32 : ℕ → List ℕ → ℤ
-i32 = wholeAt 2147483647
+-- the word n behind the verb as what it says, by the letter of its kind: `i` an i64, `y` an i32, `U` a u64, `u` a u32, `b` a u8
+abbrev i : ℕ → List ℕ → ℤ
+i = wholeAt 9223372036854775807
 
-abbrev u64 : ℕ → List ℕ → ℕ
-u64 = naturalAt 18446744073709551615
+abbrev y : ℕ → List ℕ → ℤ
+y = wholeAt 2147483647
 
-abbrev u32 : ℕ → List ℕ → ℕ
-u32 = naturalAt 4294967295
+abbrev U : ℕ → List ℕ → ℕ
+U = naturalAt 18446744073709551615
 
-abbrev u8 : ℕ → List ℕ → ℕ
-u8 = naturalAt 255
+abbrev u : ℕ → List ℕ → ℕ
+u = naturalAt 4294967295
 
--- as a PRECISION, as the bytes of HEX, and all behind its blank
-unfoldable pub precisionAt : ℕ → List ℕ → Precision
-precisionAt i s = cond (alike (wordAt i s) (bytes "-")) Default (Digits (u64 i s))
+abbrev b : ℕ → List ℕ → ℕ
+b = naturalAt 255
 
-abbrev pub hexAt : ℕ → List ℕ → List ℕ
-hexAt i s = hexBytes (wordAt i s)
+-- `e` an EPOCH, `p` a PRECISION, `x` the bytes of HEX, `t` all behind its blank; `.` in a row is the end of the line
+unfoldable pub e : ℕ → List ℕ → ℤ
+e n s = byWord (wordAt n s) (i n s) epochs
 
-abbrev pub textAt : ℕ → List ℕ → List ℕ
-textAt i s = drop 1 (restAt i s)
+unfoldable pub p : ℕ → List ℕ → Precision
+p n s = cond (alike (wordAt n s) (bytes "-")) Default (Digits (U n s))
+
+abbrev pub x : ℕ → List ℕ → List ℕ
+x n s = hexBytes (wordAt n s)
+
+abbrev pub t : ℕ → List ℕ → List ℕ
+t n s = drop 1 (restAt n s)
 
 -- the answer with lent bytes, which stand last as they are then
 abbrev pub lentLine : Outcome ℕ × List ℕ → List ℕ
@@ -54,19 +68,19 @@ pub data Row : Type 0 where
 
 abbrev pub rows : List Row
 rows =
-    row "print" "eiup." (λ s. line (λ text. text) (goodNanos (u32 2 s) (gives (timeText (i64 1 s) (u32 2 s) (epochAt 0 s) (precisionAt 3 s)))))
-    ∷ row "line" "eiupUx." (λ s. lentLine (displayed (i64 1 s) (u32 2 s) (epochAt 0 s) (precisionAt 3 s) (hexAt 5 s) (u64 4 s)))
-    ∷ row "new" "iu." (λ s. timeLine (newTime (i64 0 s) (u32 1 s)))
-    ∷ row "date" "eybbbbbu." (λ s. timeLine (fromDateTime (epochAt 0 s) (i32 1 s) (u8 2 s) (u8 3 s) (u8 4 s) (u8 5 s) (u8 6 s) (u32 7 s)))
-    ∷ row "unix" "eiui." (λ s. timeLine (fromUnix (epochAt 0 s) (i64 1 s) (u32 2 s) (i64 3 s)))
-    ∷ row "to-unix" "eiui." (λ s. line integer (toUnix (epochAt 0 s) (i64 1 s) (u32 2 s) (i64 3 s)))
-    ∷ row "epoch" "eeiu." (λ s. timeLine (overEpoch (epochAt 0 s) (epochAt 1 s) (i64 2 s) (u32 3 s)))
-    ∷ row "add" "iuUu." (λ s. timeLine (added (i64 0 s) (u32 1 s) (u64 2 s) (u32 3 s)))
-    ∷ row "sub" "iuUu." (λ s. timeLine (taken (i64 0 s) (u32 1 s) (u64 2 s) (u32 3 s)))
-    ∷ row "since" "iuiu." (λ s. durationLine (since (i64 0 s) (u32 1 s) (i64 2 s) (u32 3 s)))
-    ∷ row "compare" "iuiu." (λ s. line orderText (compared (i64 0 s) (u32 1 s) (i64 2 s) (u32 3 s)))
-    ∷ row "read" "et" (λ s. timeLine (readText 2147483647 (epochAt 0 s) (textAt 1 s)))
-    ∷ row "read-hex" "ex." (λ s. timeLine (readText 2147483647 (epochAt 0 s) (hexAt 1 s)))
+    row "print" "eiup." (λ s. line (λ text. text) (goodNanos (u 2 s) (gives (timeText (i 1 s) (u 2 s) (e 0 s) (p 3 s)))))
+    ∷ row "line" "eiupUx." (λ s. lentLine (displayed (i 1 s) (u 2 s) (e 0 s) (p 3 s) (x 5 s) (U 4 s)))
+    ∷ row "new" "iu." (λ s. timeLine (newTime (i 0 s) (u 1 s)))
+    ∷ row "date" "eybbbbbu." (λ s. timeLine (fromDateTime (e 0 s) (y 1 s) (b 2 s) (b 3 s) (b 4 s) (b 5 s) (b 6 s) (u 7 s)))
+    ∷ row "unix" "eiui." (λ s. timeLine (fromUnix (e 0 s) (i 1 s) (u 2 s) (i 3 s)))
+    ∷ row "to-unix" "eiui." (λ s. line integer (toUnix (e 0 s) (i 1 s) (u 2 s) (i 3 s)))
+    ∷ row "epoch" "eeiu." (λ s. timeLine (overEpoch (e 0 s) (e 1 s) (i 2 s) (u 3 s)))
+    ∷ row "add" "iuUu." (λ s. timeLine (added (i 0 s) (u 1 s) (U 2 s) (u 3 s)))
+    ∷ row "sub" "iuUu." (λ s. timeLine (taken (i 0 s) (u 1 s) (U 2 s) (u 3 s)))
+    ∷ row "since" "iuiu." (λ s. durationLine (since (i 0 s) (u 1 s) (i 2 s) (u 3 s)))
+    ∷ row "compare" "iuiu." (λ s. line orderText (compared (i 0 s) (u 1 s) (i 2 s) (u 3 s)))
+    ∷ row "read" "et" (λ s. timeLine (readText 2147483647 (e 0 s) (t 1 s)))
+    ∷ row "read-hex" "ex." (λ s. timeLine (readText 2147483647 (e 0 s) (x 1 s)))
     ∷ []
 
 abbrev pub answerBy : Row → List ℕ → List ℕ

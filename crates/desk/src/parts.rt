@@ -3,7 +3,7 @@ use counts::Duration;
 use counts::Epoch;
 use counts::TaiTime;
 use printer::Precision;
-use words::values::epoch_at;
+use words::tables::epoch_row;
 use words::values::i64_at;
 use words::values::u32_at;
 use words::values::u64_at;
@@ -11,13 +11,21 @@ use words::words::same;
 use words::words::word_at;
 ghost use mathlib.Core.Path.{_≡_};
 ghost use Prim.Native.Nat.{_+_, _≤_};
-ghost use Rattle.words.specs.Numbers.{epochAt, wholeAt, naturalAt};
-ghost use Rattle.desk.specs.Verbs.{precisionAt};
+ghost use Rattle.words.specs.Numbers.{wholeAt, naturalAt};
+ghost use Rattle.desk.specs.Verbs.{e as epochAt, p as precisionAt};
 
 pub(crate) fn epoch_word(s: &[u8], i: usize) -> Epoch
     ensures { λ r. ⌜ r .0 ≡ epochAt i (now (s .entry)) ⌝ }
 {
-    Epoch(epoch_at(s, i))
+    match epoch_row(word_at(s, i)) {
+        0 => Epoch::MONOTONIC_TIME,
+        1 => Epoch::GPS_TIME,
+        2 => Epoch::GST_TIME,
+        3 => Epoch::BDT_TIME,
+        4 => Epoch::TAI_1958_TIME,
+        5 => Epoch::TAI_1972_TIME,
+        _ => Epoch(i64_at(s, i)),
+    }
 }
 
 pub(crate) fn time_at(s: &[u8], i: usize) -> TaiTime

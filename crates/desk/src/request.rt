@@ -26,7 +26,7 @@ fn put_answer(request: &[u8], out: &mut [u8]) -> usize
     let s = skip(request, n);
     let table =
         b" print eiup. line eiupUx. new iu. date eybbbbbu. unix eiui. to-unix eiui. epoch eeiu. add iuUu. sub iuUu. since iuiu. compare iuiu. read et read-hex ex.";
-    let verb = row_of(&request[..n], table, 13, 0);
+    let verb = row_of(&request[..n], table, 2, 13, 0);
     if !row_fits(s, word_at(table, 2 * verb + 1)) {
         return put(out, 0, b"malformed");
     }

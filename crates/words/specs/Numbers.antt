@@ -1,15 +1,14 @@
 -- The numbers of a line, and what stands for one.
 use mathlib.Core.Bool.{cond, _&&_}
-use mathlib.Core.List.{List, [], _∷_}
+use mathlib.Core.List.{List}
 use Prim.Native.Nat.{ℕ, zero, suc, _+_}
-use Prim.Native.String.{String}
 use lib.Dec.{ltb}
 use lib.IntN.{ℤ, pos, negsuc}
 use lib.ListN.{length, drop}
 use Rattle.fields.specs.Numbers.{beginsWith, digitsUpTo}
 use Rattle.fields.specs.declared.numbers.Number.{Number}
 use Rattle.fields.specs.declared.numbers.Number.the-variants as Number
-use Rattle.words.specs.Words.{byWord, wordAt}
+use Rattle.words.specs.Words.{wordAt}
 use Rattle.words.specs.declared.numbers.Signed.{Signed}
 use Rattle.words.specs.declared.numbers.Signed.the-variants.{Value, Bad}
 
@@ -32,21 +31,6 @@ below Number.Bad = Bad
 unfoldable pub signed : ℕ → List ℕ → Signed
 signed top s = cond (beginsWith 45 s) (below (unsigned (top + 1) (drop 1 s))) (above (unsigned top s))
 
--- the names of epochs
-abbrev pub epochNames : List (String × Signed)
-epochNames =
-    ("monotonic", Value (pos 0))
-    ∷ ("gps", Value (pos 315964819))
-    ∷ ("gst", Value (pos 935280019))
-    ∷ ("bdt", Value (pos 1136073633))
-    ∷ ("tai1958", Value (negsuc 378691199))
-    ∷ ("tai1972", Value (pos 63072000))
-    ∷ []
-
--- an epoch: one of them, or an i64
-unfoldable pub epoch : List ℕ → Signed
-epoch s = byWord s (signed 9223372036854775807 s) epochNames
-
 -- ---- the words by their place, as numbers: 0 where the word is none of the kind
 abbrev pub orZero : Signed → ℤ
 orZero (Value v) = v
@@ -55,9 +39,6 @@ orZero Bad = pos 0
 abbrev pub orNone : Number → ℕ
 orNone (Number.Value v) = v
 orNone Number.Bad = 0
-
-unfoldable pub epochAt : ℕ → List ℕ → ℤ
-epochAt i s = orZero (epoch (wordAt i s))
 
 unfoldable pub wholeAt : ℕ → ℕ → List ℕ → ℤ
 wholeAt top i s = orZero (signed top (wordAt i s))

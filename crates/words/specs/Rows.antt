@@ -3,13 +3,14 @@ use mathlib.Core.Bool.{Bool, true, false, _&&_, _||_}
 use mathlib.Core.List.{List, [], _∷_}
 use Prim.Native.Nat.{ℕ}
 use Prim.Native.String.{String}
-use lib.Dec.{eqb}
+use lib.Dec.{ltb, eqb}
 use lib.ListN.{length, drop}
 use Rattle.fields.specs.Numbers.{beginsWith}
 use Rattle.fields.specs.declared.numbers.Number.{Number}
 use Rattle.fields.specs.declared.numbers.Number.the-variants as Number
 use Rattle.words.specs.Words.{bytes, alike, byWord, fieldLength, fieldWord}
-use Rattle.words.specs.Numbers.{unsigned, signed, epoch}
+use Rattle.words.specs.Numbers.{unsigned, signed}
+use Rattle.words.specs.Tables.{epochRow}
 use Rattle.words.specs.Hex.{isHex}
 use Rattle.words.specs.declared.numbers.Signed.{Signed}
 use Rattle.words.specs.declared.numbers.Signed.the-variants as Signed
@@ -25,7 +26,7 @@ isNumber Number.Bad = false
 -- the kinds, and when what is in front of s is of each: EPOCH, i64, i32, u64, u32, u8, PRECISION, HEX, all behind a blank, and the end of the line
 abbrev pub kinds : List ℕ → List (String × Bool)
 kinds s =
-    ("e", isSigned (epoch (fieldWord s)))
+    ("e", ltb (epochRow (fieldWord s)) 6 || isSigned (signed 9223372036854775807 (fieldWord s)))
     ∷ ("i", isSigned (signed 9223372036854775807 (fieldWord s)))
     ∷ ("y", isSigned (signed 2147483647 (fieldWord s)))
     ∷ ("U", isNumber (unsigned 18446744073709551615 (fieldWord s)))

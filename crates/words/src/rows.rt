@@ -4,7 +4,7 @@ use crate::numbers::Signed;
 use crate::numbers::TOP;
 use crate::numbers::parse_signed;
 use crate::numbers::parse_unsigned;
-use crate::tables::parse_epoch;
+use crate::tables::epoch_row;
 use crate::words::field_length;
 use crate::words::field_word;
 use crate::words::same;
@@ -38,7 +38,7 @@ fn is_good(kind: u8, s: &[u8]) -> bool
 {
     let word = field_word(s);
     match kind {
-        b'e' => is_signed(parse_epoch(word)),
+        b'e' => epoch_row(word) < 6 || is_signed(parse_signed(word, TOP)),
         b'i' => is_signed(parse_signed(word, TOP)),
         b'y' => is_signed(parse_signed(word, 2147483647)),
         b'U' => is_number(parse_unsigned(word, 18446744073709551615)),

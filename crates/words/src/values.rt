@@ -3,21 +3,11 @@ use crate::numbers::Signed;
 use crate::numbers::TOP;
 use crate::numbers::parse_signed;
 use crate::numbers::parse_unsigned;
-use crate::tables::parse_epoch;
 use crate::words::word_at;
 use fields::numbers::Number;
 ghost use mathlib.Core.Path.{_≡_};
 ghost use Prim.Native.Nat.{_≤_};
-ghost use Rattle.words.specs.Numbers.{epochAt, wholeAt, naturalAt};
-
-pub fn epoch_at(s: &[u8], i: usize) -> i64
-    ensures { λ r. ⌜ r ≡ epochAt i (now (s .entry)) ⌝ }
-{
-    match parse_epoch(word_at(s, i)) {
-        Signed::Value(v) => v,
-        Signed::Bad => 0,
-    }
-}
+ghost use Rattle.words.specs.Numbers.{wholeAt, naturalAt};
 
 pub fn i64_at(s: &[u8], i: usize) -> i64
     ensures { λ r. ⌜ r ≡ wholeAt 9223372036854775807 i (now (s .entry)) ⌝ }

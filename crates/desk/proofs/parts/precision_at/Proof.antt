@@ -1,6 +1,6 @@
 -- `desk::parts::precision_at`.
 use borrow.Author.Needs.{needs}
-use Rattle.desk.specs.Verbs.{precisionAt}
+use Rattle.desk.specs.Verbs.{p as precisionAt}
 use Rattle.desk.proofs.parts.precision_at.Statement.{statement}
 use Rattle.desk.proofs.parts.precision_at.Tie as tie
 

@@ -1,6 +1,6 @@
 -- `words::rows::is_good`.
 use borrow.Author.Needs.{needs}
-use borrow.Author.Tests.{ne-eqb}
+use borrow.Author.Tests.{ne-eqb, lt-ltb, le-ltb}
 use Rattle.words.specs.Words.{alike}
 use Rattle.words.specs.Rows.{good}
 use Rattle.words.proofs.rows.is_good.Statement.{statement}
@@ -24,20 +24,22 @@ is-good-spec =
     (λ c κs. search needs)
     (λ c κs. search needs)
     (λ c κs. search needs)
+    (λ c κs. search needs)
     (λ c. search needs)
     (λ c κs. search needs)
     (λ c κs. search needs)
     (λ c κs. search needs)
     (λ c κs. search needs)
     (λ c κs. search needs)
-    (λ c. rw (c .before .before .match .keys1, ← c .before .before .before .field-word .ensures, ← c .before .parse-epoch .ensures) (c .is-signed .ensures))
-    (λ c. rw (c .before .before .match .keys2, ← c .before .before .before .field-word .ensures, ← c .before .parse-signed .ensures) (c .is-signed2 .ensures))
-    (λ c. rw (c .before .before .match .keys3, ← c .before .before .before .field-word .ensures, ← c .before .parse-signed2 .ensures) (c .is-signed3 .ensures))
+    (λ c. rw (c .before .before .match .keys1, ← c .before .before .before .field-word .ensures, ← c .before .epoch-row .ensures, lt-ltb _ 6 (c .if1 .taken)))
+    (λ c. rw (c .before .before .before .before .match .keys1, ← c .before .before .before .before .before .field-word .ensures, ← c .before .before .before .epoch-row .ensures, le-ltb (c .before .before .before .epoch-row .result) 6 (c .before .before .if1 .left), ← c .before .parse-signed .ensures) (c .is-signed .ensures))
+    (λ c. rw (c .before .before .match .keys2, ← c .before .before .before .field-word .ensures, ← c .before .parse-signed2 .ensures) (c .is-signed2 .ensures))
+    (λ c. rw (c .before .before .match .keys3, ← c .before .before .before .field-word .ensures, ← c .before .parse-signed3 .ensures) (c .is-signed3 .ensures))
     (λ c. rw (c .before .before .match .keys4, ← c .before .before .before .field-word .ensures, ← c .before .parse-unsigned .ensures) (c .is-number .ensures))
     (λ c. rw (c .before .before .match .keys5, ← c .before .before .before .field-word .ensures, ← c .before .parse-unsigned2 .ensures) (c .is-number2 .ensures))
     (λ c. rw (c .before .before .match .keys6, ← c .before .before .before .field-word .ensures, ← c .before .parse-unsigned3 .ensures) (c .is-number3 .ensures))
-    (λ c. rw (c .before .before .before .match .keys7, ← c .before .before .before .before .field-word .ensures, ← c .before .same .ensures, c .if1 .taken))
-    (λ c. rw (c .before .before .before .before .before .match .keys7, ← c .before .before .before .before .before .before .field-word .ensures, ← c .before .before .before .same .ensures, c .before .before .if1 .left, ← c .before .parse-unsigned4 .ensures) (c .is-number4 .ensures))
+    (λ c. rw (c .before .before .before .match .keys7, ← c .before .before .before .before .field-word .ensures, ← c .before .same .ensures, c .if2 .taken))
+    (λ c. rw (c .before .before .before .before .before .match .keys7, ← c .before .before .before .before .before .before .field-word .ensures, ← c .before .before .before .same .ensures, c .before .before .if2 .left, ← c .before .parse-unsigned4 .ensures) (c .is-number4 .ensures))
     (λ c. rw (c .before .match .keys8, ← c .before .before .field-word .ensures) (c .is-hex .ensures))
     (λ c. rw (c .before .match .keys9) (c .begins-with .ensures))
     (λ c. rw (c .match .keys10))

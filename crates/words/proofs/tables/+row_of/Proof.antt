@@ -16,7 +16,7 @@ use Rattle.words.proofs.tables.+row_of.{statement}
 use Rattle.words.proofs.tables.+row_of.Tie.{close}
 
 abbrev μ : Measures 2 ps ℕ
-μ κs a = a .1 .1 .0
+μ κs a = a .1 .1 .1 .0
 
 pub +row-of-spec : {M : Type 1} → statement M
 unfolding rowFrom
@@ -26,9 +26,9 @@ unfolding rowFrom
     (λ c. (rw (c .if1 .taken), omega arith))
     (λ c κs. search needs)
     (λ c κs. search needs)
-    (λ c. (row-found (c .before .before .before .before .before .before .args .left) _ _ _ (omega arith) (rw (c .before .before .field-word .ensures) at (sym (c .before .same .ensures) ∙ c .if2 .taken)), omega arith))
+    (λ c. (row-found _ (c .before .before .before .before .before .before .args .left) _ _ _ (omega arith) (rw (c .before .before .field-word .ensures) at (sym (c .before .same .ensures) ∙ c .if2 .taken)), omega arith))
     (λ c κs. search needs)
     (λ c. omega arith)
     (λ c. omega arith)
     (λ c κs. (omega arith, omega arith))
-    (λ c. (rw (c .before .rest-at .ensures) at (c .row-of .ensures .0) ∙ row-more (c .before .before .before .before .before .before .before .before .args .left) _ _ _ (omega arith) (rw (c .before .before .before .before .field-word .ensures) at (sym (c .before .before .before .same .ensures) ∙ c .before .before .if2 .left)), omega (arith, c .row-of .ensures .1))))
+    (λ c. (rw (c .before .rest-at .ensures) at (c .row-of .ensures .0) ∙ row-more _ (c .before .before .before .before .before .before .before .before .args .left) _ _ _ (omega arith) (rw (c .before .before .before .before .field-word .ensures) at (sym (c .before .before .before .same .ensures) ∙ c .before .before .if2 .left)), omega (arith, c .row-of .ensures .1))))
