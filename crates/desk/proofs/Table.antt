@@ -2,7 +2,7 @@
 use mathlib.Core.Path.{_≡_, refl, sym, _∙_}
 use mathlib.Core.Bool.{cond}
 use mathlib.Core.List.{List, [], _∷_}
-use Prim.Native.Nat.{ℕ, _+_, _*_, _≤_}
+use Prim.Native.Nat.{ℕ, _+_, _≤_}
 use native.Mathlib.Omega.{arith}
 use lib.IntN.{ℤ, pos, negsuc}
 use lib.ListN.{length, take, drop, getD, List·getD-eq-default}
@@ -25,24 +25,26 @@ pub past : (k : ℕ) (s : List ℕ) → 13 ≤ k → malformed ≡ answerOf k s
 unfolding answerOf
 past k s h = rw (List·getD-eq-default rows _ h)
 
--- the table as the code has it
-abbrev pub table : List ℕ
-table =
-    bytes " print eiup. line eiupUx. new iu. date eybbbbbu. unix eiui. to-unix eiui. epoch eeiu. add iuUu. sub iuUu. since iuiu. compare iuiu. read et read-hex ex."
+-- the table as the code has it: the verbs, and the kinds of the words behind each
+abbrev pub verbs : List ℕ
+verbs = bytes " print line new date unix to-unix epoch add sub since compare read read-hex"
+
+abbrev pub kinds : List ℕ
+kinds = bytes " eiup. eiupUx. iu. eybbbbbu. eiui. eiui. eeiu. iuUu. iuUu. iuiu. iuiu. et ex."
 
 -- what is answered by the number of a verb
 abbrev pub numbered : List ℕ → ℕ → List ℕ
-numbered s k = cond (fits (wordAt (2 * k + 1) table) s) (answerOf k s) malformed
+numbered s k = cond (fits (wordAt k kinds) s) (answerOf k s) malformed
 
-computed : (word s : List ℕ) → byRow (numbered s) 2 13 0 word table ≡ byVerb word s rows
+computed : (word s : List ℕ) → byRow (numbered s) 1 13 0 word verbs ≡ byVerb word s rows
 unfolding byRow wordAt restAt fieldLength fieldWord wordLength fits answerOf
 computed word s = refl
 
-pub answer-by : (s : List ℕ) (k : ℕ) → length s ≤ 65535 → k ≡ rowFrom 2 13 0 (take (wordLength s) s) table → answerText s ≡ numbered (drop (wordLength s) s) k
+pub answer-by : (s : List ℕ) (k : ℕ) → length s ≤ 65535 → k ≡ rowFrom 1 13 0 (take (wordLength s) s) verbs → answerText s ≡ numbered (drop (wordLength s) s) k
 unfolding answerText
 answer-by s k h e =
     let rest = drop (wordLength s) s in
-    rw (le-ltb 65535 (length s) h, e) (sym (by-row (numbered rest) 2 13 0 (take (wordLength s) s) table ∙ computed (take (wordLength s) s) rest))
+    rw (le-ltb 65535 (length s) h, e) (sym (by-row (numbered rest) 1 13 0 (take (wordLength s) s) verbs ∙ computed (take (wordLength s) s) rest))
 
 -- ---- the epochs by their numbers
 unfoldable pub epochValues : List ℤ

@@ -24,10 +24,10 @@ fn put_answer(request: &[u8], out: &mut [u8]) -> usize
     }
     let n = word_length(request);
     let s = skip(request, n);
-    let table =
-        b" print eiup. line eiupUx. new iu. date eybbbbbu. unix eiui. to-unix eiui. epoch eeiu. add iuUu. sub iuUu. since iuiu. compare iuiu. read et read-hex ex.";
-    let verb = row_of(&request[..n], table, 2, 13, 0);
-    if !row_fits(s, word_at(table, 2 * verb + 1)) {
+    let verbs = b" print line new date unix to-unix epoch add sub since compare read read-hex";
+    let verb = row_of(&request[..n], verbs, 1, 13, 0);
+    let kinds = b" eiup. eiupUx. iu. eybbbbbu. eiui. eiui. eeiu. iuUu. iuUu. iuiu. iuiu. et ex.";
+    if !row_fits(s, word_at(kinds, verb)) {
         return put(out, 0, b"malformed");
     }
     match verb {

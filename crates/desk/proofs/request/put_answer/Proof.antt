@@ -24,8 +24,8 @@ by k =
 
 -- and where its words fit its row
 fitted : (f : tie.After-row-fits) → f .row-fits .result ≡ true →
-    let n = f .before .before .before .before .before .before .before in
-    answerText (n .before .before .before .before .before .args .request .now) ≡ answerOf (f .before .before .before .row-of .result) (n .skip .result .now)
+    let n = f .before .before .before .before .before .before .before .before in
+    answerText (n .before .before .before .before .before .args .request .now) ≡ answerOf (f .before .before .before .before .row-of .result) (n .skip .result .now)
 fitted f e = rw (by (search), ← f .before .word-at .ensures, ← f .row-fits .ensures, e)
 
 pub put-answer-spec : {M : Type 1} → statement M
@@ -40,8 +40,6 @@ put-answer-spec =
     (λ c κs. search needs)
     (λ c. rw length-take (omega (arith, c .before .before .before .word-length .ensures .1)))
     (λ c κs. search needs)
-    (λ c. search needs)
-    (λ c. search needs)
     (λ c κs. search needs)
     (λ c κs. search needs)
     (λ c. search needs)
@@ -49,12 +47,12 @@ put-answer-spec =
     (λ c. search needs)
     (λ c. let f : tie.After-row-fits = search in (rw (by (search), ← f .before .word-at .ensures, ← f .row-fits .ensures, not-true (f .row-fits .result) (c .before .before .before .before .before .if2 .taken)) (c .before .before .put2 .ensures), omega (arith, c .before .before .put2 .ensures .place)))
     (λ c κs. search needs)
-    (λ c κs. let k = simp length-drop at (ap length (c .before .before .before .before .before .before .before .before .before .before .skip .ensures)) in (omega arith, omega arith))
-    (λ c κs. let no = c .before .match .rest in let k = simp length-drop at (ap length (c .before .before .before .before .before .before .before .before .before .before .skip .ensures)) in (after 1 (after 0 (omega arith) (no .0 .1)) (no .1), omega arith))
+    (λ c κs. let k = simp length-drop at (ap length (c .before .before .before .before .before .before .before .before .before .before .before .skip .ensures)) in (omega arith, omega arith))
+    (λ c κs. let no = c .before .match .rest in let k = simp length-drop at (ap length (c .before .before .before .before .before .before .before .before .before .before .before .skip .ensures)) in (after 1 (after 0 (omega arith) (no .0 .1)) (no .1), omega arith))
     (λ c κs. search needs)
     (λ c. search needs)
     (λ c. (rw (fitted (search) (not-false _ (c .before .before .before .before .before .if2 .left)), c .before .before .before .before .match .keys1) (c .before .before .print .ensures .0), omega (arith, c .before .before .print .ensures .1)))
     (λ c. search needs)
-    (λ c. let k = simp length-drop at (ap length (c .before .before .before .before .before .before .before .before .before .before .before .before .before .skip .ensures)) in (rw (fitted (search) (not-false _ (c .before .before .before .before .before .if2 .left)), c .before .before .before .before .match .keys2) (c .before .before .line .ensures .0), omega (arith, c .before .before .line .ensures .1)))
+    (λ c. let k = simp length-drop at (ap length (c .before .before .before .before .before .before .before .before .before .before .before .before .before .before .skip .ensures)) in (rw (fitted (search) (not-false _ (c .before .before .before .before .before .if2 .left)), c .before .before .before .before .match .keys2) (c .before .before .line .ensures .0), omega (arith, c .before .before .line .ensures .1)))
     (λ c. search needs)
     (λ c. (rw (fitted (search) (not-false _ (c .before .before .before .before .before .before .if2 .left)), ← c .before .before .before .said-of .ensures) (c .before .before .put-said .ensures .0), omega (arith, c .before .before .put-said .ensures .1))))
