@@ -4,4 +4,3 @@ pub mod Years
 pub mod Months
 pub mod Walk
 pub mod Cycle
-pub mod Moments

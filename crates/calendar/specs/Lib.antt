@@ -1,3 +1,2 @@
 pub mod Walk
 pub mod Closed
-pub mod Moments

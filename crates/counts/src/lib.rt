@@ -1,11 +1,11 @@
 // Timestamps, durations, and every entry on their counts. The names are those of lib.rs in the Rust.
 use calendar::Date;
-use calendar::Moment;
-use calendar::Time;
 use dates::BadField;
 use errors::CountError;
 use errors::DateTimeError;
 use integers::Checked;
+use moments::Moment;
+use moments::Time;
 use seconds::Counted;
 ghost use mathlib.Core.Path.{_≡_};
 ghost use Rattle.counts.specs.Said.{saidCounted, saidTime, saidDateTime, saidUnix, saidDuration, saidOrdering};
@@ -116,7 +116,7 @@ impl TaiTime {
             minute: min,
             second: sec,
         };
-        match calendar::near_to_secs(Moment { date, time }, epoch.0) {
+        match moments::near_to_secs(Moment { date, time }, epoch.0) {
             Checked::Exact(secs) => DateTimeAnswer::At(TaiTime { secs, nanos: nano }),
             Checked::Outside => DateTimeAnswer::Refused(DateTimeError::OutOfRange),
         }

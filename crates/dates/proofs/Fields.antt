@@ -14,7 +14,7 @@ use Rattle.errors.specs.Refusals.{Outcome, gives, refuses, ofDateTime}
 use Rattle.errors.specs.declared.DateTimeError.{DateTimeError}
 use Rattle.errors.specs.declared.DateTimeError.the-variants.{OutOfRange}
 use Rattle.calendar.specs.Walk.{date, monthLength, Valid}
-use Rattle.calendar.specs.Moments.{ValidTime, secondsOf}
+use Rattle.moments.specs.Moments.{ValidTime, secondsOf}
 use Rattle.dates.specs.Said.{saidField}
 use Rattle.dates.specs.Dates.{fieldsChecked, dateTimeSecs}
 use Rattle.dates.specs.declared.BadField.{BadField}

@@ -7,7 +7,7 @@ use lib.IntN.{ℤ, pos, _-ℤ_}
 use Rattle.integers.specs.Integers.{isI64}
 use Rattle.errors.specs.Refusals.{refusal, Outcome, gives, refuses, refusesInRangeError}
 use Rattle.calendar.specs.Walk.{date, monthLength}
-use Rattle.calendar.specs.Moments.{secondsOf}
+use Rattle.moments.specs.Moments.{secondsOf}
 use Rattle.seconds.specs.Counts.{check}
 
 -- an outcome of seconds, with nanoseconds added to its value

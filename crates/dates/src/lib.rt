@@ -1,9 +1,9 @@
 // Calendar fields to a count.
 use calendar::Date;
-use calendar::Moment;
-use calendar::Time;
 use errors::DateTimeError;
 use integers::Checked;
+use moments::Moment;
+use moments::Time;
 ghost use mathlib.Core.Path.{_≡_};
 ghost use Prim.Native.Nat.{_≤_};
 ghost use lib.IntN.{ℤ, natAbs};
@@ -114,7 +114,7 @@ pub fn date_time_secs(
         minute: min,
         second: sec,
     };
-    match calendar::date_time_to_secs(Moment { date, time }, epoch) {
+    match moments::date_time_to_secs(Moment { date, time }, epoch) {
         Checked::Exact(secs) => SecsAnswer::At(secs),
         Checked::Outside => SecsAnswer::Refused(DateTimeError::OutOfRange),
     }

@@ -9,10 +9,10 @@ use lib.IntN.{ℤ, _+ℤ_, _-ℤ_, +ℤ-negℤ-cancel, -ℤ-+ℤ-cancel}
 use borrow.Author.Tests.{le-leb, lt-ltb, leb-true, ltb-true}
 use Rattle.integers.specs.Integers.{isI64}
 use Rattle.errors.specs.Refusals.{gives, refuses, refusal}
-use Rattle.calendar.specs.declared.Moment.{Moment}
+use Rattle.moments.specs.declared.Moment.{Moment}
 use Rattle.calendar.specs.Walk.{Valid, date, monthLength}
-use Rattle.calendar.specs.Moments.{momentAt, ValidTime, secondsOf}
-use Rattle.calendar.proofs.Moments.{seconds-moment, moment-seconds, moment-valid}
+use Rattle.moments.specs.Moments.{momentAt, ValidTime, secondsOf}
+use Rattle.moments.proofs.Moments.{seconds-moment, moment-seconds, moment-valid}
 use Rattle.counts.specs.Counts.{check, withNanos, dateTimeSecs, fromDateTime}
 use Rattle.seconds.proofs.Checks.{passed, refuses-not}
 use Rattle.dates.proofs.Fields.{Good, good-fields}

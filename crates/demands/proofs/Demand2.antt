@@ -12,13 +12,13 @@ use Rattle.integers.specs.Integers.{Floor, floorDiv, floorMod}
 use Rattle.integers.proofs.Floor.{floor-law}
 use Rattle.errors.specs.Refusals.{gives}
 use Rattle.calendar.specs.declared.Date.{Date}
-use Rattle.calendar.specs.declared.Moment.{Moment}
+use Rattle.moments.specs.declared.Moment.{Moment}
 use Rattle.calendar.specs.Walk.{isLeap, monthLength, Valid, date, next, prev, start, walk}
 use Rattle.calendar.specs.Closed.{dayNumber}
-use Rattle.calendar.specs.Moments.{timeAt, momentAt, ValidTime, secondOfDay, secondsOf}
+use Rattle.moments.specs.Moments.{timeAt, momentAt, ValidTime, secondOfDay, secondsOf}
 use Rattle.calendar.proofs.Walk.{walk-valid, day-walk, walk-day}
 use Rattle.calendar.proofs.Cycle.{walk-cycle, walk-to-year-0}
-use Rattle.calendar.proofs.Moments.{seconds-moment, moment-seconds}
+use Rattle.moments.proofs.Moments.{seconds-moment, moment-seconds}
 use Rattle.printer.specs.declared.Precision.{Precision}
 use Rattle.printer.specs.Text.{text}
 use Rattle.printer.specs.Display.{stamp, timeText, displayed}

@@ -9,9 +9,9 @@ use lib.IntN.{ℤ, pos, natAbs, _+ℤ_, _-ℤ_}
 use lib.ListN.{take, drop}
 use lib.Signed.{_<ℤ_}
 use Rattle.errors.specs.Refusals.{gives, refuses, refusal}
-use Rattle.calendar.specs.declared.Moment.{Moment}
+use Rattle.moments.specs.declared.Moment.{Moment}
 use Rattle.calendar.specs.Walk.{Valid}
-use Rattle.calendar.specs.Moments.{momentAt, ValidTime}
+use Rattle.moments.specs.Moments.{momentAt, ValidTime}
 use Rattle.counts.specs.Counts.{fromDateTime, exact, added, taken, since, compared}
 use Rattle.durations.specs.declared.Ordering.the-variants.{Less}
 use Rattle.reader.specs.Stamp.{readText}

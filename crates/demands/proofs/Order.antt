@@ -11,8 +11,8 @@ use Rattle.integers.specs.Integers.{Floor}
 use Rattle.integers.proofs.Signed.{less, to-less, lt-true, true-lt, add-law, Tri, before, same, after}
 use Rattle.integers.proofs.Floor.{floor-order}
 use Rattle.errors.specs.Refusals.{refusal, gives}
-use Rattle.calendar.specs.Moments.{momentAt}
-use Rattle.calendar.proofs.Moments.{moment-order}
+use Rattle.moments.specs.Moments.{momentAt}
+use Rattle.moments.proofs.Moments.{moment-order}
 use Rattle.counts.specs.Counts.{exact, order, compared}
 use Rattle.durations.specs.declared.Ordering.the-variants.{Less, Equal, Greater}
 use Rattle.demands.specs.Values.{EarlierReading, by-moment, by-nanos}

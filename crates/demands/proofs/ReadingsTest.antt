@@ -11,7 +11,7 @@ use borrow.Author.Tests.{lt-ltb}
 use Rattle.integers.specs.Integers.{isI64, floorDiv, floorMod}
 use Rattle.calendar.specs.Walk.{divides, isLeap, monthRow, monthLength}
 use Rattle.calendar.specs.Closed.{leapYears, yearStart, sumTo, dayOfYear, dayNumber}
-use Rattle.calendar.specs.Moments.{secondOfDay, secondsOf}
+use Rattle.moments.specs.Moments.{secondOfDay, secondsOf}
 use Rattle.counts.specs.Counts.{dateTimeSecs, fromDateTime, exact, timeAt, added}
 use Rattle.fields.specs.Numbers.{beginsWith, isDigit, allDigits, decimalAfter, digitsUpTo, number}
 use Rattle.fields.specs.Fields as Fields
@@ -20,7 +20,7 @@ use Rattle.reader.specs.Stamp.{readText}
 use Rattle.digits.specs.Digits as Digits
 use Rattle.printer.specs.Text as Printed
 use Rattle.errors.specs.Refusals.{Refusal, Outcome, gives, refuses, refusesInRangeError}
-use Rattle.calendar.specs.declared.Moment.{Moment}
+use Rattle.moments.specs.declared.Moment.{Moment}
 use Rattle.reader.specs.Text.{parsed}
 use Rattle.reader.specs.declared.date_time.Parsed.{Parsed}
 use Rattle.reader.specs.declared.date_time.Parsed.the-variants.{Fields, Refused}

@@ -11,7 +11,7 @@ use Rattle.errors.specs.declared.DateTimeError.the-variants.{InvalidMonth, Inva
 use Rattle.errors.specs.declared.ParseDateTimeError.{ParseDateTimeError}
 use Rattle.errors.specs.declared.ParseDateTimeError.the-variants.{MissingField, InvalidFieldWidth, InvalidFieldValue, RangeError}
 use Rattle.calendar.specs.Walk.{monthLength}
-use Rattle.calendar.specs.Moments.{secondsOf}
+use Rattle.moments.specs.Moments.{secondsOf}
 use Rattle.counts.specs.Counts.{check, representable, goodNanos, withNanos, newTime, dateTimeSecs, fromDateTime, fromUnix, toUnix, overEpoch, timeAt, durationAt, added, taken, since, compared}
 use Rattle.reader.specs.Text.{parsed}
 use Rattle.reader.specs.Stamp.{inRangeError, stamped, readText}

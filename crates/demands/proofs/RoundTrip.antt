@@ -5,11 +5,11 @@ use native.Mathlib.Omega.{arith}
 use lib.IntN.{ℤ, natAbs, _+ℤ_}
 use Rattle.errors.specs.Refusals.{gives}
 use Rattle.calendar.specs.declared.Date.{Date}
-use Rattle.calendar.specs.declared.Moment.{Moment}
+use Rattle.moments.specs.declared.Moment.{Moment}
 use Rattle.calendar.specs.Walk.{isLeap, monthLength, Valid}
-use Rattle.calendar.specs.Moments.{momentAt, ValidTime}
+use Rattle.moments.specs.Moments.{momentAt, ValidTime}
 use Rattle.calendar.proofs.Months.{month-top}
-use Rattle.calendar.proofs.Moments.{moment-valid, year-within}
+use Rattle.moments.proofs.Moments.{moment-valid, year-within}
 use Rattle.reader.specs.Stamp.{inRangeError, stamped, readText}
 use Rattle.printer.specs.declared.Precision.the-variants.{Default}
 use Rattle.printer.specs.Display.{stamp, timeText}

@@ -12,7 +12,7 @@ use Rattle.integers.proofs.Floor.{floor-law, floor-one, floor-add}
 use Rattle.calendar.specs.declared.Date.{Date}
 use Rattle.calendar.specs.Walk.{divides, isLeap, monthRow, monthLength, date, next, prev, start, walk}
 use Rattle.calendar.specs.Closed.{yearLength, leapYears, yearStart, sumTo, dayOfYear, dayNumber}
-use Rattle.calendar.specs.Moments.{timeAt, momentAt, ValidTime, secondOfDay}
+use Rattle.moments.specs.Moments.{timeAt, momentAt, ValidTime, secondOfDay}
 use Rattle.calendar.proofs.Months.{length-some, sum-zero}
 use Rattle.calendar.proofs.Years.{start-step}
 use Rattle.calendar.proofs.Walk.{walk-valid, next-prev, prev-next, day-law, day-walk, reads}

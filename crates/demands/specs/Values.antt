@@ -7,9 +7,9 @@ use Prim.Native.Nat.{ℕ, _^_, _<_}
 use lib.IntN.{ℤ, pos, _+ℤ_, _*ℤ_}
 use Rattle.integers.specs.Integers.{isI64}
 use Rattle.errors.specs.Refusals.{Outcome, gives, refuses, refusal}
-use Rattle.calendar.specs.declared.Moment.{Moment}
+use Rattle.moments.specs.declared.Moment.{Moment}
 use Rattle.calendar.specs.Walk.{date, monthLength}
-use Rattle.calendar.specs.Moments.{momentAt, EarlierMoment}
+use Rattle.moments.specs.Moments.{momentAt, EarlierMoment}
 use Rattle.counts.specs.Counts.{exact}
 
 -- a signed 64-bit number

@@ -12,8 +12,8 @@ use mir.Syntax.{w64}
 use mir.Val.{SFits}
 use borrow.Author.Tests.{ltb-true}
 use Rattle.errors.specs.Refusals.{refusal, Outcome, gives, refuses}
-use Rattle.calendar.specs.Moments.{momentAt}
-use Rattle.calendar.proofs.Moments.{year-within}
+use Rattle.moments.specs.Moments.{momentAt}
+use Rattle.moments.proofs.Moments.{year-within}
 use Rattle.counts.specs.Counts.{goodNanos}
 use Rattle.printer.specs.declared.Precision.{Precision}
 use Rattle.printer.specs.Line.{answer, lineAfter}

@@ -5,8 +5,8 @@ use Prim.Native.Nat.{ℕ}
 use lib.Dec.{ltb}
 use lib.IntN.{ℤ, _+ℤ_}
 use Rattle.errors.specs.Refusals.{Outcome, refuses, refusal}
-use Rattle.calendar.specs.declared.Moment.{Moment}
-use Rattle.calendar.specs.Moments.{momentAt}
+use Rattle.moments.specs.declared.Moment.{Moment}
+use Rattle.moments.specs.Moments.{momentAt}
 use Rattle.printer.specs.declared.Stamp.{Stamp}
 use Rattle.printer.specs.declared.Precision.{Precision}
 use Rattle.printer.specs.Text.{text}

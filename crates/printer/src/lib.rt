@@ -1,10 +1,10 @@
 // Writing a stamp into a lent line.
 mod parts;
 
-use calendar::secs_to_date_time;
 use counts::Epoch;
 use counts::TaiTime;
 use errors::PrintError;
+use moments::secs_to_date_time;
 use parts::Part;
 ghost use mathlib.Core.Path.{_≡_};
 ghost use mathlib.Core.List.{_++_};

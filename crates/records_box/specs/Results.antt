@@ -6,7 +6,7 @@ use lib.ListN.{getD}
 use Rattle.errors.specs.Refusals.{Refusal, Outcome, gives, refuses, refusesInRangeError}
 use Rattle.durations.specs.declared.Ordering.{Ordering}
 use Rattle.durations.specs.declared.Ordering.the-variants.{Less, Equal, Greater}
-use Rattle.calendar.specs.declared.Moment.{Moment}
+use Rattle.moments.specs.declared.Moment.{Moment}
 use Rattle.printer.specs.declared.Precision.{Precision}
 use Rattle.printer.specs.declared.Precision.the-variants.{Default, Digits}
 use Rattle.records_box.specs.declared.TimeResult.{TimeResult}

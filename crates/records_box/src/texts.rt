@@ -14,7 +14,7 @@ use printer::Printed;
 use reader::ReadAnswer;
 ghost use mathlib.Core.Path.{_≡_};
 ghost use lib.IntN.{_+ℤ_};
-ghost use Rattle.calendar.specs.Moments.{momentAt};
+ghost use Rattle.moments.specs.Moments.{momentAt};
 ghost use Rattle.reader.specs.Stamp.{readText};
 ghost use Rattle.printer.specs.Display.{displayed};
 ghost use Rattle.records_box.specs.Results.{timeResult, momentResult, precisionOf, lineResult};
@@ -64,7 +64,7 @@ pub extern "C" fn tai_display(
 pub extern "C" fn tai_secs_to_date_time(secs: i64, epoch: i64) -> MomentResult
     ensures { λ r. ⌜ r ≡ momentResult (momentAt (secs +ℤ epoch)) ⌝ }
 {
-    let m = calendar::secs_to_date_time(secs, epoch);
+    let m = moments::secs_to_date_time(secs, epoch);
     let date = m.date;
     let time = m.time;
     MomentResult {

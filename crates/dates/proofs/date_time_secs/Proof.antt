@@ -8,7 +8,7 @@ use borrow.Author.Needs.{needs}
 use Rattle.integers.specs.Integers.{checked}
 use Rattle.errors.specs.Refusals.{Outcome, gives}
 use Rattle.calendar.specs.Walk.{date}
-use Rattle.calendar.specs.Moments.{secondsOf}
+use Rattle.moments.specs.Moments.{secondsOf}
 use Rattle.dates.specs.Dates.{fieldsChecked, dateTimeSecs}
 use Rattle.dates.proofs.Fields.{at-field, field-refused, good-fields, secs-given, secs-refused}
 use Rattle.dates.proofs.date_time_secs.Statement.{statement}

@@ -8,9 +8,9 @@ use mir.Syntax.{w64}
 use mir.Val.{SFits, toZ, ofZ}
 use borrow.Author.Needs.{needs}
 use denote.Ref.{now}
-use Rattle.calendar.specs.declared.Moment.{Moment}
-use Rattle.calendar.specs.Moments.{momentAt}
-use Rattle.calendar.proofs.Moments.{year-within}
+use Rattle.moments.specs.declared.Moment.{Moment}
+use Rattle.moments.specs.Moments.{momentAt}
+use Rattle.moments.proofs.Moments.{year-within}
 use Rattle.seconds.proofs.Checks.{bad, good}
 use Rattle.printer.specs.Text.{text}
 use Rattle.printer.specs.Line.{answer, lineAfter}

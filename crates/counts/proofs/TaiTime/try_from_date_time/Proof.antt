@@ -12,7 +12,7 @@ use Rattle.integers.proofs.Signed.{size-law, apart}
 use Rattle.integers.proofs.Machine.{known, fit}
 use Rattle.errors.specs.Refusals.{Outcome, gives}
 use Rattle.calendar.specs.Walk.{date}
-use Rattle.calendar.specs.Moments.{secondsOf}
+use Rattle.moments.specs.Moments.{secondsOf}
 use Rattle.counts.specs.Said.{saidField}
 use Rattle.counts.specs.Counts.{withNanos, fieldsChecked, dateTimeSecs, fromDateTime}
 use Rattle.dates.proofs.Fields.{at-field, field-refused, good-fields, secs-given, secs-refused}

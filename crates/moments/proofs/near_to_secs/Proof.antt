@@ -1,4 +1,4 @@
--- `calendar::near_to_secs`.
+-- `moments::near_to_secs`.
 use mathlib.Core.Path.{sym, ap, subst, _∙_}
 use Prim.Native.Nat.{_≤_}
 use native.Mathlib.Omega.{arith}
@@ -11,9 +11,9 @@ use Rattle.integers.specs.Integers.{checked}
 use Rattle.integers.proofs.Signed.{size-law}
 use Rattle.integers.proofs.Machine.{signed, known, known64}
 use Rattle.integers.proofs.Sums.{exact-if, inside}
-use Rattle.calendar.proofs.Moments.{le-true, seconds-near}
-use Rattle.calendar.proofs.near_to_secs.Statement.{statement}
-use Rattle.calendar.proofs.near_to_secs.Tie as tie
+use Rattle.moments.proofs.Moments.{le-true, seconds-near}
+use Rattle.moments.proofs.near_to_secs.Statement.{statement}
+use Rattle.moments.proofs.near_to_secs.Tie as tie
 
 small : (k : tie.After-secs-from-1970) → natAbs (k .secs-from-1970 .result) ≤ 400_000_000_000_000_000
 small k =

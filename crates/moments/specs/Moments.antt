@@ -3,11 +3,11 @@ use mathlib.Core.Path.{_≡_}
 use Prim.Native.Nat.{ℕ, _+_, _*_, _/_, _%_, _≤_, _<_}
 use lib.IntN.{ℤ, pos, _+ℤ_, _*ℤ_}
 use Rattle.integers.specs.Integers.{floorDiv, floorMod}
 use Rattle.calendar.specs.declared.Date.{Date}
-use Rattle.calendar.specs.declared.Moment.{Moment}
-use Rattle.calendar.specs.declared.Time.{Time}
+use Rattle.moments.specs.declared.Moment.{Moment}
+use Rattle.moments.specs.declared.Time.{Time}
 use Rattle.calendar.specs.Walk.{walk, Earlier}
 use Rattle.calendar.specs.Closed.{dayNumber}
 
 -- the time at a second of the day
 unfoldable pub timeAt : ℕ → Time

@@ -1,9 +1,9 @@
--- `calendar::second_of_day`.
+-- `moments::second_of_day`.
 use mathlib.Core.Path.{refl}
 use borrow.Author.Needs.{needs}
-use Rattle.calendar.specs.Moments.{secondOfDay}
-use Rattle.calendar.proofs.second_of_day.Statement.{statement}
-use Rattle.calendar.proofs.second_of_day.Tie as tie
+use Rattle.moments.specs.Moments.{secondOfDay}
+use Rattle.moments.proofs.second_of_day.Statement.{statement}
+use Rattle.moments.proofs.second_of_day.Tie as tie
 
 cast-result : tie.Need-cast-result
 cast-result c = search needs

@@ -1,4 +1,4 @@
--- `calendar::from_year_0`: the sum itself, where it fits; else the parts of the exact sum.
+-- `moments::from_year_0`: the sum itself, where it fits; else the parts of the exact sum.
 use mathlib.Core.Path.{_≡_, sym, ap, subst, _∙_}
 use native.Mathlib.Omega.{arith}
 use lib.IntN.{pos, _+ℤ_}
@@ -9,8 +9,8 @@ use borrow.Author.Needs.{needs}
 use Rattle.integers.proofs.Machine.{known, two}
 use Rattle.integers.proofs.Sums.{exact-tells}
 use Rattle.integers.proofs.Floor.{PartsOf, of-split, of-add, proper}
-use Rattle.calendar.proofs.from_year_0.Statement.{statement}
-use Rattle.calendar.proofs.from_year_0.Tie as tie
+use Rattle.moments.proofs.from_year_0.Statement.{statement}
+use Rattle.moments.proofs.from_year_0.Tie as tie
 
 -- the sums that fit
 sum-is : (k : tie.After-sum) → let a = k .before .before .before .args in k .sum .given .0 .0 ≡ a .seconds +ℤ a .epoch

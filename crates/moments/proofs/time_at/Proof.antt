@@ -1,9 +1,9 @@
--- `calendar::time_at`.
+-- `moments::time_at`.
 use mathlib.Core.Path.{refl}
 use borrow.Author.Needs.{needs}
-use Rattle.calendar.specs.Moments.{timeAt}
-use Rattle.calendar.proofs.time_at.Statement.{statement}
-use Rattle.calendar.proofs.time_at.Tie as tie
+use Rattle.moments.specs.Moments.{timeAt}
+use Rattle.moments.proofs.time_at.Statement.{statement}
+use Rattle.moments.proofs.time_at.Tie as tie
 
 cast-t3 : tie.Need-cast-t3
 cast-t3 c = search needs

@@ -1,4 +1,4 @@
--- `calendar::secs_from_1970`: the day and the second of the day, each in its range.
+-- `moments::secs_from_1970`: the day and the second of the day, each in its range.
 use mathlib.Core.Path.{_≡_, sym, ap, subst, _∙_}
 use Prim.Native.Nat.{_*_, _≤_, _<_}
 use native.Mathlib.Omega.{arith}
@@ -8,11 +8,11 @@ use mir.Syntax.{w64}
 use mir.Val.{SFits, toZ}
 use borrow.Author.Needs.{needs}
 use Rattle.integers.proofs.Machine.{Small, small-size, small-add, small-mul, small-fits, small-pos}
 use Rattle.calendar.specs.Closed.{dayNumber}
-use Rattle.calendar.specs.Moments.{secondsOf}
-use Rattle.calendar.proofs.Moments.{day-near, second-within}
-use Rattle.calendar.proofs.secs_from_1970.Statement.{statement}
-use Rattle.calendar.proofs.secs_from_1970.Tie as tie
+use Rattle.moments.specs.Moments.{secondsOf}
+use Rattle.moments.proofs.Moments.{day-near, second-within}
+use Rattle.moments.proofs.secs_from_1970.Statement.{statement}
+use Rattle.moments.proofs.secs_from_1970.Tie as tie
 
 small-day : (k : tie.After-day-of-date) → Small 3_700_000_000_000 (k .day-of-date .result)
 small-day k =

@@ -1,4 +1,4 @@
--- `calendar::secs_to_date_time`: there is but one day and second of the exact sum since year 0.
+-- `moments::secs_to_date_time`: there is but one day and second of the exact sum since year 0.
 use Prim.Native.Nat.{_≤_}
 use native.Mathlib.Omega.{arith}
 use lib.IntN.{pos, natAbs, _+ℤ_}
@@ -9,9 +9,9 @@ use borrow.Author.Needs.{needs}
 use Rattle.integers.proofs.Signed.{apart, size-law, add-law}
 use Rattle.integers.proofs.Machine.{two}
 use Rattle.integers.proofs.Floor.{PartsOf, splits}
-use Rattle.calendar.proofs.Moments.{days-of-cycles, moment-of}
-use Rattle.calendar.proofs.secs_to_date_time.Statement.{statement}
-use Rattle.calendar.proofs.secs_to_date_time.Tie as tie
+use Rattle.moments.proofs.Moments.{days-of-cycles, moment-of}
+use Rattle.moments.proofs.secs_to_date_time.Statement.{statement}
+use Rattle.moments.proofs.secs_to_date_time.Tie as tie
 
 module _ (k : tie.After-from-year-0) where
   parts-of : PartsOf 12622780800 (k .before .args .seconds +ℤ k .before .args .epoch +ℤ pos 62167219200) (k .from-year-0 .result)

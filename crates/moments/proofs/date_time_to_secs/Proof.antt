@@ -1,4 +1,4 @@
--- `calendar::date_time_to_secs`: a near year, or the parts of the exact difference.
+-- `moments::date_time_to_secs`: a near year, or the parts of the exact difference.
 use mathlib.Core.Path.{_≡_, sym, ap, _∙_}
 use Prim.Native.Nat.{_<_}
 use native.Mathlib.Omega.{arith}
@@ -11,11 +11,11 @@ use Rattle.integers.specs.Integers.{Proper, checked}
 use Rattle.integers.proofs.Signed.{apart, size-law}
 use Rattle.integers.proofs.Machine.{known, known64}
 use Rattle.integers.proofs.Floor.{PartsOf, of-split, of-sub, whole-of, proper}
 use Rattle.calendar.specs.Closed.{dayNumber}
-use Rattle.calendar.specs.Moments.{secondsOf}
-use Rattle.calendar.proofs.Moments.{le-true, day-near, second-within}
-use Rattle.calendar.proofs.date_time_to_secs.Statement.{statement}
-use Rattle.calendar.proofs.date_time_to_secs.Tie as tie
+use Rattle.moments.specs.Moments.{secondsOf}
+use Rattle.moments.proofs.Moments.{le-true, day-near, second-within}
+use Rattle.moments.proofs.date_time_to_secs.Statement.{statement}
+use Rattle.moments.proofs.date_time_to_secs.Tie as tie
 
 -- the moment's own parts: the day, and the second of the day
 day-is : (k : tie.After-day-of-date) → toZ w64 (ofZ w64 (k .day-of-date .result)) ≡ dayNumber (k .before .before .before .before .before .args .m .date)

@@ -13,15 +13,15 @@ use Rattle.integers.specs.Integers.{Floor, floorDiv, floorMod}
 use Rattle.integers.proofs.Signed.{plus, minus, apart, size-law, add-law, diff-law, times-law, Tri, before, same, after, tri}
 use Rattle.integers.proofs.Machine.{two}
 use Rattle.integers.proofs.Floor.{floor-law, floor-one, floor-order, splits, to-floor}
 use Rattle.calendar.specs.declared.Date.{Date}
-use Rattle.calendar.specs.declared.Time.{Time}
-use Rattle.calendar.specs.declared.Moment.{Moment}
+use Rattle.moments.specs.declared.Time.{Time}
+use Rattle.moments.specs.declared.Moment.{Moment}
 use Rattle.calendar.specs.Walk.{isLeap, Valid, walk}
 use Rattle.calendar.specs.Closed.{yearStart, dayOfYear, dayNumber}
-use Rattle.calendar.specs.Moments.{timeAt, momentAt, ValidTime, secondOfDay, secondsOf, EarlierMoment, by-date, by-hour, by-minute, by-second}
+use Rattle.moments.specs.Moments.{timeAt, momentAt, ValidTime, secondOfDay, secondsOf, EarlierMoment, by-date, by-hour, by-minute, by-second}
 use Rattle.calendar.proofs.Years.{some-length, start-near, start-far}
 use Rattle.calendar.proofs.Months.{day-of-year-end}
 use Rattle.calendar.proofs.Walk.{day-law, walk-valid, day-walk, walk-day, walk-order}
 
 -- ---- sizes
 -- the machine's test, to a fact
