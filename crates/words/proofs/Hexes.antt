@@ -5,4 +5,5 @@ use Rattle.words.specs.Words.{bytes}
 use Rattle.words.specs.Hex.{digitValue}
 
 pub values : map digitValue (bytes "0123456789abcdef") ≡ 0 ∷ 1 ∷ 2 ∷ 3 ∷ 4 ∷ 5 ∷ 6 ∷ 7 ∷ 8 ∷ 9 ∷ 10 ∷ 11 ∷ 12 ∷ 13 ∷ 14 ∷ 15 ∷ []
+unfolding digitValue
 values = refl

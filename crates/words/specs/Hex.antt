@@ -2,8 +2,8 @@
 use mathlib.Core.Bool.{Bool, true, cond, _&&_}
 use mathlib.Core.List.{List, [], _∷_}
 use mathlib.Core.Path.{_≡_}
-use Prim.Native.Nat.{ℕ, _+_, _*_, _/_, _%_, _≤_}
-use lib.Dec.{eqb, ltb}
+use Prim.Native.Nat.{ℕ, _+_, _-_, _*_, _%_, _≤_}
+use lib.Dec.{eqb, ltb, leb}
 use lib.ListN.{length, take, getD}
 use Rattle.words.specs.Words.{bytes, alike}
 
@@ -11,9 +11,9 @@ use Rattle.words.specs.Words.{bytes, alike}
 abbrev pub digitOf : ℕ → ℕ
 digitOf v = getD (bytes "0123456789abcdef") v 0
 
--- the value of a digit: the lower four bits of `0` (48) to `9` (57), and 9 more for `a` (97) to `f` (102); below 16 for every byte
-abbrev pub digitValue : ℕ → ℕ
-digitValue x = (x % 16 + x / 64 * 9) % 16
+-- the value of a digit, `0` (48) to `9` (57) or `a` (97) to `f` (102); 0 of any other byte
+unfoldable pub digitValue : ℕ → ℕ
+digitValue x = cond (leb 48 x && leb x 57) (x - 48) (cond (leb 97 x && leb x 102) (x - 87) 0)
 
 -- a byte is a digit if it is that of its value
 abbrev pub isHexDigit : ℕ → Bool

@@ -14,11 +14,24 @@ pub fn digit(value: u8) -> u8
     digits[value as usize]
 }
 
-// The value of a digit.
+// The value of a digit, 0 of any other byte.
 fn digit_value(x: u8) -> u8
     ensures { λ r. ⌜ r ≡ digitValue x ⌝ }
+    ensures { λ r. ⌜ r < 16 ⌝ }
 {
-    (x % 16 + x / 64 * 9) % 16
+    if x < b'0' {
+        return 0;
+    }
+    if x <= b'9' {
+        return x - b'0';
+    }
+    if x < b'a' {
+        return 0;
+    }
+    if x <= b'f' {
+        return x - 87;
+    }
+    0
 }
 
 pub fn is_hex(s: &[u8]) -> bool

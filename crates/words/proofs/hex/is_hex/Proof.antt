@@ -27,9 +27,9 @@ is-hex-spec =
     (λ c κs. search needs)
     (λ c κs. search needs)
     (λ c. let l = c .before .before .before .before .before in
-    rw (eq-eqb _ 0 (l .before .if1 .left), l .loop .inv .1, drop-cons (l .before .before .before .args .s .now) (l .loop .i) 0 (omega arith), ne-eqb _ _ (rw (c .before .digit .ensures, c .before .before .digit-value .ensures) at (c .if2 .taken)), and-false))
+    rw (eq-eqb _ 0 (l .before .if1 .left), l .loop .inv .1, drop-cons (l .before .before .before .args .s .now) (l .loop .i) 0 (omega arith), ne-eqb _ _ (rw (c .before .digit .ensures, c .before .before .digit-value .ensures .0) at (c .if2 .taken)), and-false))
     (λ c. omega arith)
     (λ c. omega arith)
     (λ c. let l = c .before .before .before .before .before in
-    (omega arith, l .loop .inv .1 ∙ rw (drop-cons (l .before .before .before .args .s .now) (l .loop .i) 0 (omega arith), eq-eqb _ _ (rw (c .before .digit .ensures, c .before .before .digit-value .ensures) at (c .if2 .left)), add-one)))
+    (omega arith, l .loop .inv .1 ∙ rw (drop-cons (l .before .before .before .args .s .now) (l .loop .i) 0 (omega arith), eq-eqb _ _ (rw (c .before .digit .ensures, c .before .before .digit-value .ensures .0) at (c .if2 .left)), add-one)))
     (λ c. let z : length (c .before .before .before .before .args .s .now) ≡ c .before .loop .i = omega arith in rw (eq-eqb _ 0 (c .before .before .if1 .left), c .before .loop .inv .1, drop-of-length-le _ (c .loop-test .left), and-true, z)))

@@ -39,6 +39,6 @@ unhex-spec =
     (λ c. omega arith)
     (λ c. let l = c .before .before .before .before .before in let s = l .before .before .before .args .hex .now in
     let e : l .loop .i + 2 ≡ suc (l .loop .i + 1) = omega arith in
-    (omega arith, omega arith, simp length-set (l .loop .inv .2), l .loop .inv .3 ∙ rw (drop-cons s (l .loop .i) 0 (omega arith), e, ← add-one (l .loop .i), drop-cons s (l .loop .i + 1) 0 (omega arith), ← c .before .before .digit-value .ensures, ← c .digit-value2 .ensures, add-one (l .loop .n), take-suc-set (l .loop .bytes) (l .loop .n) _ (omega arith), append-assoc)))
+    (omega arith, omega arith, simp length-set (l .loop .inv .2), l .loop .inv .3 ∙ rw (drop-cons s (l .loop .i) 0 (omega arith), e, ← add-one (l .loop .i), drop-cons s (l .loop .i + 1) 0 (omega arith), ← c .before .before .digit-value .ensures .0, ← c .digit-value2 .ensures .0, add-one (l .loop .n), take-suc-set (l .loop .bytes) (l .loop .n) _ (omega arith), append-assoc)))
     (λ c. c .before .loop .inv .2)
     (λ c. record { front = sym (c .before .loop .inv .3 ∙ rw (end (drop (c .before .loop .i) (c .before .before .before .before .args .hex .now)) (rw length-drop (omega arith)), append-nil)); within = omega arith; half = omega arith }))
