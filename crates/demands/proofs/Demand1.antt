@@ -23,7 +23,7 @@ use Rattle.reader.specs.declared.stamp.ReadAnswer.{ReadAnswer}
 use Rattle.reader.specs.Text.{parsed}
 use Rattle.reader.specs.Stamp.{saidRead, readText}
 use Rattle.printer.specs.declared.Printed.{Printed}
-use Rattle.printer.specs.declared.Precision.{Precision}
+use Rattle.printed_parts.specs.declared.Precision.{Precision}
 use Rattle.printer.specs.Line.{said}
 use Rattle.printer.specs.Display.{timeText, displayed}
 use Rattle.printer.proofs.Line.{said-one}

@@ -19,7 +19,7 @@ use Rattle.moments.specs.Moments.{timeAt, momentAt, ValidTime, secondOfDay, sec
 use Rattle.calendar.proofs.Walk.{walk-valid, day-walk, walk-day}
 use Rattle.calendar.proofs.Cycle.{walk-cycle, walk-to-year-0}
 use Rattle.moments.proofs.Moments.{seconds-moment, moment-seconds}
-use Rattle.printer.specs.declared.Precision.{Precision}
+use Rattle.printed_parts.specs.declared.Precision.{Precision}
 use Rattle.printer.specs.Text.{text}
 use Rattle.printer.specs.Display.{stamp, timeText, displayed}
 use Rattle.demands.specs.Values.{Divides, monthLengths, moment}

@@ -15,7 +15,7 @@ use Rattle.moments.specs.Moments.{momentAt, ValidTime}
 use Rattle.counts.specs.Counts.{fromDateTime, exact, added, taken, since, compared}
 use Rattle.durations.specs.declared.Ordering.the-variants.{Less}
 use Rattle.reader.specs.Stamp.{readText}
-use Rattle.printer.specs.declared.Precision.the-variants.{Default}
+use Rattle.printed_parts.specs.declared.Precision.the-variants.{Default}
 use Rattle.printer.specs.Display.{timeText, displayed}
 use Rattle.demands.specs.Values.{I64, Timestamp, Duration, moment, Reaches, EarlierReading, TimeLiesAt, DurationLiesAt}
 use Rattle.demands.proofs.DatesWalked.{accepted, refused, one-count}

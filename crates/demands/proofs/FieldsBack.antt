@@ -19,7 +19,7 @@ use Rattle.seconds.proofs.Checks.{both}
 use Rattle.fields.proofs.Tenths.{good-fraction}
 use Rattle.digits.specs.Digits.{digits}
 use Rattle.digits.proofs.Decimal.{digits-length}
-use Rattle.printer.specs.Text.{pointed}
+use Rattle.printed_parts.specs.Text.{pointed}
 use Rattle.demands.proofs.DigitsBack.{all-digits, digit-low, digit-high, number-digits, begins-not}
 
 -- no digit is a delimiter

@@ -14,7 +14,7 @@ use Rattle.seconds.proofs.Checks.{both}
 use Rattle.fields.proofs.Tenths.{weighed, weighed-nanoseconds}
 use Rattle.digits.specs.Digits.{digits}
 use Rattle.digits.proofs.Decimal.{digits-length}
-use Rattle.printer.specs.Text.{unlessLast, trim}
+use Rattle.printed_parts.specs.Text.{unlessLast, trim}
 use Rattle.demands.proofs.DigitsBack.{all-digits}
 
 -- a digit behind others weighs what is left of the first one's weight

@@ -11,7 +11,7 @@ use lib.ListN.{length, take, drop, length-take}
 use lib.Seq.{drop-append-add, take-append-seam}
 use borrow.Author.Tests.{lt-ltb, le-ltb, ltb-false}
 use Rattle.errors.specs.Refusals.{Refusal, Outcome, gives, refuses, refusal}
-use Rattle.printer.specs.declared.Precision.{Precision}
+use Rattle.printed_parts.specs.declared.Precision.{Precision}
 use Rattle.printer.specs.Line.{byRoom}
 use Rattle.printer.specs.Display.{timeText, displayed}
 use Rattle.seconds.proofs.Checks.{refuses-not}

@@ -18,13 +18,14 @@ use Rattle.fields.specs.Fields as Fields
 use Rattle.reader.specs.Text as Text
 use Rattle.reader.specs.Stamp.{readText}
 use Rattle.digits.specs.Digits as Digits
+use Rattle.printed_parts.specs.Text as Parts
 use Rattle.printer.specs.Text as Printed
 use Rattle.errors.specs.Refusals.{Refusal, Outcome, gives, refuses, refusesInRangeError}
 use Rattle.moments.specs.declared.Moment.{Moment}
 use Rattle.reader.specs.Text.{parsed}
 use Rattle.reader.specs.declared.date_time.Parsed.{Parsed}
 use Rattle.reader.specs.declared.date_time.Parsed.the-variants.{Fields, Refused}
-use Rattle.printer.specs.declared.Precision.the-variants.{Default}
+use Rattle.printed_parts.specs.declared.Precision.the-variants.{Default}
 use Rattle.printer.specs.Text.{text}
 use Rattle.printer.specs.Line.{answer, lineAfter}
 use Rattle.printer.specs.Display.{stamp, timeText, displayed}
@@ -145,5 +146,5 @@ all-hold (r ∷ rows) t = let b = and-yes (passes r) (allPass rows) t in (holds 
 
 -- EVERY ROW PASSES, as the prover computes it
 pub all-pass : T (allPass readings)
-unfolding isI64 floorDiv floorMod divides isLeap monthRow monthLength leapYears yearStart sumTo dayOfYear dayNumber secondOfDay secondsOf dateTimeSecs fromDateTime exact timeAt added beginsWith isDigit allDigits decimalAfter digitsUpTo number Fields.isDelimiter Fields.width Fields.twoDigits Fields.nanoseconds Fields.fraction Fields.seconds Text.field Text.fromMonth Text.fromYear Text.withoutSign Text.parsed readText Digits.digits Digits.widthFrom Digits.width Printed.yearText Printed.fieldsText Printed.trim Printed.fractionText Printed.text
+unfolding isI64 floorDiv floorMod divides isLeap monthRow monthLength leapYears yearStart sumTo dayOfYear dayNumber secondOfDay secondsOf dateTimeSecs fromDateTime exact timeAt added beginsWith isDigit allDigits decimalAfter digitsUpTo number Fields.isDelimiter Fields.width Fields.twoDigits Fields.nanoseconds Fields.fraction Fields.seconds Text.field Text.fromMonth Text.fromYear Text.withoutSign Text.parsed readText Digits.digits Digits.widthFrom Digits.width Parts.yearText Parts.trim Parts.fractionText Printed.fieldsText Printed.text
 all-pass = tt

@@ -17,7 +17,7 @@ use Rattle.reader.specs.Text.{parsed}
 use Rattle.reader.specs.Stamp.{inRangeError, stamped, readText}
 use Rattle.reader.specs.declared.date_time.Parsed.{Parsed}
 use Rattle.reader.specs.declared.date_time.Parsed.the-variants as Parsed
-use Rattle.printer.specs.declared.Precision.{Precision}
+use Rattle.printed_parts.specs.declared.Precision.{Precision}
 use Rattle.printer.specs.Line.{byRoom, answer}
 use Rattle.printer.specs.Display.{timeText, displayed}
 use Rattle.demands.specs.Values.{moment}

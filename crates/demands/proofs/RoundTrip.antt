@@ -11,7 +11,7 @@ use Rattle.moments.specs.Moments.{momentAt, ValidTime}
 use Rattle.calendar.proofs.Months.{month-top}
 use Rattle.moments.proofs.Moments.{moment-valid, year-within}
 use Rattle.reader.specs.Stamp.{inRangeError, stamped, readText}
-use Rattle.printer.specs.declared.Precision.the-variants.{Default}
+use Rattle.printed_parts.specs.declared.Precision.the-variants.{Default}
 use Rattle.printer.specs.Display.{stamp, timeText}
 use Rattle.demands.specs.Values.{I64, Timestamp}
 use Rattle.demands.proofs.Passed.{gives-one}

@@ -13,10 +13,11 @@ use Rattle.fields.specs.declared.delimited.Delimiter.the-variants.{Hyphen, Spac
 use Rattle.reader.specs.declared.date_time.DateTime.{DateTime}
 use Rattle.reader.specs.declared.date_time.Parsed.the-variants.{Fields}
 use Rattle.printer.specs.declared.Stamp.{Stamp}
-use Rattle.printer.specs.declared.Precision.the-variants.{Default}
+use Rattle.printed_parts.specs.declared.Precision.the-variants.{Default}
 use Rattle.digits.specs.Digits.{digits, width}
 use Rattle.digits.proofs.Width.{width-least}
-use Rattle.printer.specs.Text.{yearText, fieldsText, trim, pointed, fractionText, text}
+use Rattle.printed_parts.specs.Text.{yearText, trim, pointed, fractionText}
+use Rattle.printer.specs.Text.{fieldsText, text}
 use Rattle.demands.proofs.FractionBack.{nanoseconds-trim, trim-digits}
 use Rattle.demands.proofs.FieldsBack.{field-back, seconds-back, year-back, no-sign, no-minus}
 

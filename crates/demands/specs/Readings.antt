@@ -9,7 +9,7 @@ use lib.IntN.{ℤ, pos, negℤ}
 use Rattle.errors.specs.Refusals.{Outcome, gives, refuses, refusal}
 use Rattle.counts.specs.Counts.{fromDateTime, added}
 use Rattle.reader.specs.Stamp.{readText}
-use Rattle.printer.specs.declared.Precision.the-variants.{Default}
+use Rattle.printed_parts.specs.declared.Precision.the-variants.{Default}
 use Rattle.printer.specs.Line.{answer, lineAfter}
 use Rattle.printer.specs.Display.{displayed}
 

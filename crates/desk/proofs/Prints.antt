@@ -15,7 +15,7 @@ use Rattle.errors.specs.Refusals.{refusal, Outcome, gives, refuses}
 use Rattle.moments.specs.Moments.{momentAt}
 use Rattle.moments.proofs.Moments.{year-within}
 use Rattle.counts.specs.Counts.{goodNanos}
-use Rattle.printer.specs.declared.Precision.{Precision}
+use Rattle.printed_parts.specs.declared.Precision.{Precision}
 use Rattle.printer.specs.Line.{answer, lineAfter}
 use Rattle.printer.specs.Display.{stamp, timeText, displayed}
 use Rattle.printer.proofs.Line.{room}

@@ -8,8 +8,8 @@ use lib.ListN.{drop, getD}
 use Rattle.errors.specs.Refusals.{Outcome, gives}
 use Rattle.counts.specs.Counts.{goodNanos, newTime, fromDateTime, fromUnix, toUnix, overEpoch, added, taken, since, compared}
 use Rattle.reader.specs.Stamp.{readText}
-use Rattle.printer.specs.declared.Precision.{Precision}
-use Rattle.printer.specs.declared.Precision.the-variants.{Default, Digits}
+use Rattle.printed_parts.specs.declared.Precision.{Precision}
+use Rattle.printed_parts.specs.declared.Precision.the-variants.{Default, Digits}
 use Rattle.printer.specs.Display.{timeText, displayed}
 use Rattle.words.specs.Words.{bytes, alike, byWord, restAt, wordAt}
 use Rattle.words.specs.Numbers.{wholeAt, naturalAt}

@@ -1,4 +1,2 @@
-pub mod Year
-pub mod Fraction
 pub mod Text
 pub mod Line

@@ -8,7 +8,7 @@ use Rattle.errors.specs.Refusals.{Outcome, refuses, refusal}
 use Rattle.moments.specs.declared.Moment.{Moment}
 use Rattle.moments.specs.Moments.{momentAt}
 use Rattle.printer.specs.declared.Stamp.{Stamp}
-use Rattle.printer.specs.declared.Precision.{Precision}
+use Rattle.printed_parts.specs.declared.Precision.{Precision}
 use Rattle.printer.specs.Text.{text}
 use Rattle.printer.specs.Line.{answer, lineAfter}
 

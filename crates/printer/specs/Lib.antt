@@ -1,4 +1,3 @@
 pub mod Text
 pub mod Line
-pub mod Parts
 pub mod Display

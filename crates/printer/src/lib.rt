@@ -1,20 +1,24 @@
 // Writing a stamp into a lent line.
-mod parts;
-
 use counts::Epoch;
 use counts::TaiTime;
 use errors::PrintError;
 use moments::secs_to_date_time;
-use parts::Part;
+use printed_parts::Part;
+pub use printed_parts::Precision;
+use printed_parts::fraction_part;
+use printed_parts::part_length;
+use printed_parts::put_part;
+use printed_parts::year_part;
 ghost use mathlib.Core.Path.{_≡_};
 ghost use mathlib.Core.List.{_++_};
 ghost use Prim.Native.Nat.{_+_, _≤_};
 ghost use lib.ListN.{length};
 ghost use lib.Seq.{sets};
-ghost use Rattle.printer.specs.Text.{dash, point, fieldsText, text, Ranged};
+ghost use Rattle.printed_parts.specs.Text.{dash, point};
+ghost use Rattle.printed_parts.specs.Parts.{Bounded, partText};
+ghost use Rattle.printer.specs.Text.{fieldsText, text, Ranged};
 ghost use Rattle.printer.specs.Line.{said, answer, lineAfter};
 ghost use Rattle.printer.specs.Display.{displayed};
-ghost use Rattle.printer.specs.Parts.{Bounded, partText};
 
 // What is printed: a date, a time of day, and the nanoseconds since its second began.
 pub struct Stamp {
@@ -25,12 +29,6 @@ pub struct Stamp {
     pub minute: u8,
     pub second: u8,
     pub nanos: u32,
-}
-
-// How many digits of the fraction are printed; by default as many as it takes, and never more than nine.
-pub enum Precision {
-    Default,
-    Digits(usize),
 }
 
 // How many bytes were written, or why none were.
@@ -57,9 +55,9 @@ fn put_text(s: &mut [u8], year: Part, t: Stamp, fraction: Part)
     requires { ⌜ length (partText dash year) + 15 + length (partText point fraction) ≤ length (now s) ⌝ }
     ensures { λ _. ⌜ now (s .exit) ≡ sets (now (s .entry)) 0 (partText dash year ++ fieldsText t ++ partText point fraction) ⌝ }
 {
-    let at = parts::put_part(s, 0, b'-', year);
+    let at = put_part(s, 0, b'-', year);
     put_fields(s, at, t);
-    parts::put_part(s, at + 15, b'.', fraction);
+    put_part(s, at + 15, b'.', fraction);
 }
 
 // The text of t in the line, from the place `at` on. Its length is known before a byte is written.
@@ -71,9 +69,9 @@ pub fn print_at(t: Stamp, precision: Precision, line: &mut [u8], at: usize) -> P
     if line.len() < at {
         return Printed::Refused(PrintError::StartOutside);
     }
-    let year = parts::year_part(t.year);
-    let fraction = parts::fraction_part(t.nanos, precision);
-    let length = parts::part_length(year) + 15 + parts::part_length(fraction);
+    let year = year_part(t.year);
+    let fraction = fraction_part(t.nanos, precision);
+    let length = part_length(year) + 15 + part_length(fraction);
     if line.len() - at < length {
         return Printed::Refused(PrintError::NoRoom);
     }

@@ -5,7 +5,7 @@ use native.Mathlib.Omega.{arith}
 use lib.IntN.{ℤ, pos, negsuc}
 use mir.Syntax.{w32}
 use mir.Val.{SFits, ofZ}
-use Rattle.printer.specs.declared.Precision.the-variants.{Default, Digits}
+use Rattle.printed_parts.specs.declared.Precision.the-variants.{Default, Digits}
 use Rattle.records_box.specs.Results.{precisionOf}
 
 pub absent : (given : ℤ) (digits : ℕ) → SFits w32 given → ofZ w32 given ≡ 0 → Default ≡ precisionOf given digits

@@ -7,8 +7,8 @@ use Rattle.errors.specs.Refusals.{Refusal, Outcome, gives, refuses, refusesInRa
 use Rattle.durations.specs.declared.Ordering.{Ordering}
 use Rattle.durations.specs.declared.Ordering.the-variants.{Less, Equal, Greater}
 use Rattle.moments.specs.declared.Moment.{Moment}
-use Rattle.printer.specs.declared.Precision.{Precision}
-use Rattle.printer.specs.declared.Precision.the-variants.{Default, Digits}
+use Rattle.printed_parts.specs.declared.Precision.{Precision}
+use Rattle.printed_parts.specs.declared.Precision.the-variants.{Default, Digits}
 use Rattle.records_box.specs.declared.TimeResult.{TimeResult}
 use Rattle.records_box.specs.declared.DurationResult.{DurationResult}
 use Rattle.records_box.specs.declared.OrderingResult.{OrderingResult}

@@ -8,9 +8,10 @@ use mir.Val.{SFits}
 use mir.Facts.{toZ-ofZ}
 use borrow.Author.Needs.{needs}
 use Rattle.digits.proofs.Stores.{put-back}
-use Rattle.printer.specs.Parts.{PartOf}
+use Rattle.printed_parts.specs.Parts.{PartOf}
 use Rattle.errors.specs.Refusals.{gives}
-use Rattle.printer.specs.Text.{dash, point, yearText, text}
+use Rattle.printed_parts.specs.Text.{dash, point, yearText}
+use Rattle.printer.specs.Text.{text}
 use Rattle.printer.proofs.Text.{text-length, text-of, text-bound}
 use Rattle.printer.proofs.Line.{outside, narrow, room}
 use Rattle.printer.proofs.print_at.Statement.{statement}

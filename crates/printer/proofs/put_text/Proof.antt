@@ -2,8 +2,9 @@
 use mathlib.Core.Path.{_∙_}
 use native.Mathlib.Nat.{zero-add}
 use borrow.Author.Needs.{needs}
-use Rattle.printer.specs.Text.{dash, point, fieldsText}
-use Rattle.printer.specs.Parts.{partText}
+use Rattle.printed_parts.specs.Text.{dash, point}
+use Rattle.printer.specs.Text.{fieldsText}
+use Rattle.printed_parts.specs.Parts.{partText}
 use Rattle.printer.proofs.Text.{three, fields-length}
 use Rattle.printer.proofs.put_text.Statement.{statement}
 use Rattle.printer.proofs.put_text.Tie as tie

@@ -1,4 +1,4 @@
--- `printer::parts::year_part`: the size of a year below 0 is 0 - year.
+-- `printed_parts::year_part`: the size of a year below 0 is 0 - year.
 use mathlib.Core.Path.{_≡_, sym, ap}
 use Prim.Native.Nat.{_+_, min}
 use native.Mathlib.Omega.{arith}
@@ -9,9 +9,9 @@ use mir.Facts.{toZ-ofZ}
 use borrow.Author.Needs.{needs}
 use Rattle.integers.proofs.Signed.{plus, minus, apart, size-law}
 use Rattle.integers.proofs.Machine.{signed, Known, known}
-use Rattle.printer.proofs.Year.{year-part}
-use Rattle.printer.proofs.parts.year_part.Statement.{statement}
-use Rattle.printer.proofs.parts.year_part.Tie as tie
+use Rattle.printed_parts.proofs.Year.{year-part}
+use Rattle.printed_parts.proofs.year_part.Statement.{statement}
+use Rattle.printed_parts.proofs.year_part.Tie as tie
 
 here : (s : tie.Start) → let y = s .args .year in Known w64 y × (natAbs y ≡ plus y + minus y) × (min (plus y) (minus y) ≡ 0)
 here s = (known (s .fits .year), size-law (s .args .year), apart (s .args .year))

@@ -1,9 +1,9 @@
--- `printer::parts::part_length`.
+-- `printed_parts::part_length`.
 use mathlib.Core.Path.{sym}
 use borrow.Author.Needs.{needs}
-use Rattle.printer.proofs.Text.{marked-length, bare-length}
-use Rattle.printer.proofs.parts.part_length.Statement.{statement}
-use Rattle.printer.proofs.parts.part_length.Tie as tie
+use Rattle.printed_parts.proofs.Lengths.{marked-length, bare-length}
+use Rattle.printed_parts.proofs.part_length.Statement.{statement}
+use Rattle.printed_parts.proofs.part_length.Tie as tie
 
 add-result : tie.Need-add-result
 add-result c = search needs

@@ -1,5 +1,4 @@
 // The two parts of a text that vary in length, the year and the fraction: worked out before they are written.
-use super::Precision;
 use digits::put_number;
 use digits::split_last_digit;
 ghost use mathlib.Core.Path.{_≡_};
@@ -8,17 +7,23 @@ ghost use lib.IntN.{natAbs};
 ghost use lib.ListN.{length};
 ghost use lib.Seq.{sets};
 ghost use Rattle.digits.specs.Digits.{digits, width};
-ghost use Rattle.printer.specs.Text.{dash, point, yearText, pointed, fractionText};
-ghost use Rattle.printer.specs.Parts.{Bounded, PartOf, partText};
+ghost use Rattle.printed_parts.specs.Text.{dash, point, yearText, pointed, fractionText};
+ghost use Rattle.printed_parts.specs.Parts.{Bounded, PartOf, partText};
+
+// How many digits of the fraction are printed; by default as many as it takes, and never more than nine.
+pub enum Precision {
+    Default,
+    Digits(usize),
+}
 
 // The last `width` digits of `value`, behind a mark or none: `-` of a year, `.` of a fraction.
-pub(crate) struct Part {
+pub struct Part {
     pub marked: bool,
     pub width: usize,
     pub value: u64,
 }
 
-pub(crate) fn part_length(p: Part) -> usize
+pub fn part_length(p: Part) -> usize
     requires { ⌜ Bounded p ⌝ }
     ensures { λ r. ⌜ ((mark : ℕ) → r ≡ length (partText mark p)) ⌝ }
 {
@@ -26,7 +31,7 @@ pub(crate) fn part_length(p: Part) -> usize
 }
 
 // The part from at on, and the place behind it.
-pub(crate) fn put_part(s: &mut [u8], at: usize, mark: u8, p: Part) -> usize
+pub fn put_part(s: &mut [u8], at: usize, mark: u8, p: Part) -> usize
     requires { ⌜ Bounded p × (at + length (partText mark p) ≤ length (now s)) ⌝ }
     ensures { λ r. ⌜ r ≡ at + length (partText mark p) ⌝ }
     ensures { λ _. ⌜ now (s .exit) ≡ sets (now (s .entry)) at (partText mark p) ⌝ }
@@ -56,7 +61,7 @@ fn width_of(size: u64) -> usize
     w
 }
 
-pub(crate) fn year_part(year: i64) -> Part
+pub fn year_part(year: i64) -> Part
     requires { ⌜ natAbs year < 10 ^ 12 ⌝ }
     ensures { λ r. ⌜ PartOf dash (yearText year) r ⌝ }
 {
@@ -125,7 +130,7 @@ fn cut(nanos: u32, precision: usize) -> Part
     behind_point(width, value)
 }
 
-pub(crate) fn fraction_part(nanos: u32, precision: Precision) -> Part
+pub fn fraction_part(nanos: u32, precision: Precision) -> Part
     requires { ⌜ nanos < 2 ^ 30 ⌝ }
     ensures { λ r. ⌜ PartOf point (fractionText precision nanos) r ⌝ }
 {

@@ -1,14 +1,14 @@
--- `printer::parts::cut`: a digit that the precision leaves out may go at once (`take-down`).
+-- `printed_parts::cut`: a digit that the precision leaves out may go at once (`take-down`).
 use mathlib.Core.Path.{_≡_, _∙_}
 use Prim.Native.Nat.{_≤_, _<_, _^_}
 use native.Mathlib.Omega.{arith}
 use lib.ListN.{take}
 use borrow.Author.Needs.{needs}
 use Rattle.digits.specs.Digits.{digits}
-use Rattle.printer.specs.Text.{fractionText}
-use Rattle.printer.proofs.Fraction.{take-down, take-stop}
-use Rattle.printer.proofs.parts.cut.Statement.{statement}
-use Rattle.printer.proofs.parts.cut.Tie as tie
+use Rattle.printed_parts.specs.Text.{fractionText}
+use Rattle.printed_parts.proofs.Fraction.{take-down, take-stop}
+use Rattle.printed_parts.proofs.cut.Statement.{statement}
+use Rattle.printed_parts.proofs.cut.Tie as tie
 
 abbrev Inv-loop : tie.InvT-loop
 Inv-loop nanos precision width₀ value₀ width value = (width ≤ 9) × (value < 2 ^ 30) × (take precision (digits 9 nanos) ≡ take precision (digits width value))

@@ -1,14 +1,14 @@
--- `printer::parts::trimmed`: zeros at the end may go at once (`trim-zeros`, `trim-down`), and any other digit stays (`trim-stop`).
+-- `printed_parts::trimmed`: zeros at the end may go at once (`trim-zeros`, `trim-down`), and any other digit stays (`trim-stop`).
 use mathlib.Core.Logic.{⊎-elim}
 use mathlib.Core.Path.{_≡_, ap, _∙_}
 use Prim.Native.Nat.{ℕ, _*_, _/_, _%_, _≤_, _<_, _^_}
 use native.Mathlib.Omega.{arith}
 use borrow.Author.Needs.{needs}
 use Rattle.digits.specs.Digits.{digits}
-use Rattle.printer.specs.Text.{trim, fractionText}
-use Rattle.printer.proofs.Fraction.{trim-down, trim-zeros, trim-stop}
-use Rattle.printer.proofs.parts.trimmed.Statement.{statement}
-use Rattle.printer.proofs.parts.trimmed.Tie as tie
+use Rattle.printed_parts.specs.Text.{trim, fractionText}
+use Rattle.printed_parts.proofs.Fraction.{trim-down, trim-zeros, trim-stop}
+use Rattle.printed_parts.proofs.trimmed.Statement.{statement}
+use Rattle.printed_parts.proofs.trimmed.Tie as tie
 
 -- six zeros at the end
 six : (n : ℕ) → n % 1000000 ≡ 0 → trim (digits 9 n) ≡ trim (digits 3 (n / 1000000))

@@ -7,8 +7,8 @@ use lib.IntN.{ℤ, pos, natAbs}
 use lib.Signed.{ltZ}
 use Rattle.digits.specs.Digits.{width}
 use Rattle.digits.proofs.Width.{width-le}
-use Rattle.printer.specs.Text.{dash, yearText}
-use Rattle.printer.specs.Parts.{PartOf, partText}
+use Rattle.printed_parts.specs.Text.{dash, yearText}
+use Rattle.printed_parts.specs.Parts.{PartOf, partText}
 
 pub year-part : {b : Bool} {w n : ℕ} (y : ℤ) → ltZ y (pos 0) ≡ b → natAbs y ≡ n → w ≡ width n → n < 10 ^ 12
     → PartOf dash (yearText y) (record { marked = b; width = w; value = n })

@@ -12,7 +12,7 @@ use lib.Seq.{take-append-le, take-all}
 use borrow.Author.Tests.{ne-eqb, lt-ltb}
 use Rattle.digits.specs.Digits.{digits}
 use Rattle.digits.proofs.Decimal.{digits-length}
-use Rattle.printer.specs.Text.{point, unlessLast, trim, pointed}
+use Rattle.printed_parts.specs.Text.{point, unlessLast, trim, pointed}
 
 trim-zero : (a : List ℕ) → trim (a ++ (48 ∷ [])) ≡ trim a
 unfolding trim

@@ -1,9 +1,9 @@
--- `printer::parts::behind_point`.
+-- `printed_parts::behind_point`.
 use native.Mathlib.Omega.{arith}
-use Rattle.printer.specs.Parts.{partText}
-use Rattle.printer.proofs.Fraction.{point-first}
-use Rattle.printer.proofs.parts.behind_point.Statement.{statement}
-use Rattle.printer.proofs.parts.behind_point.Tie as tie
+use Rattle.printed_parts.specs.Parts.{partText}
+use Rattle.printed_parts.proofs.Fraction.{point-first}
+use Rattle.printed_parts.proofs.behind_point.Statement.{statement}
+use Rattle.printed_parts.proofs.behind_point.Tie as tie
 
 returns : tie.Need-returns
 unfolding partText

@@ -1,4 +1,4 @@
--- `printer::parts::width_of`: `power` is 10^w, and no width below w has room.
+-- `printed_parts::width_of`: `power` is 10^w, and no width below w has room.
 use mathlib.Core.Path.{_≡_, sym, ap, _∙_, refl}
 use Prim.Native.Nat.{_≤_, _<_, _+_, _-_, _*_, _^_}
 use native.Mathlib.Omega.{arith}
@@ -6,8 +6,8 @@ use native.Mathlib.Nat.{pow-suc}
 use native.Mathlib.Numerals.{add-one}
 use Rattle.digits.specs.Digits.{widthFrom, width}
 use Rattle.digits.proofs.Width.{here, more, power-lt}
-use Rattle.printer.proofs.parts.width_of.Statement.{statement}
-use Rattle.printer.proofs.parts.width_of.Tie as tie
+use Rattle.printed_parts.proofs.width_of.Statement.{statement}
+use Rattle.printed_parts.proofs.width_of.Tie as tie
 
 abbrev Inv-loop : tie.InvT-loop
 Inv-loop size w₀ power₀ w power = (4 ≤ w) × (w ≤ 12) × (power ≡ 10 ^ w) × (0 < power) × (width size ≡ widthFrom (20 - w) w size)

@@ -1,7 +1,7 @@
--- `printer::parts::fraction_part`.
+-- `printed_parts::fraction_part`.
 use borrow.Author.Needs.{needs}
-use Rattle.printer.proofs.parts.fraction_part.Statement.{statement}
-use Rattle.printer.proofs.parts.fraction_part.Tie as tie
+use Rattle.printed_parts.proofs.fraction_part.Statement.{statement}
+use Rattle.printed_parts.proofs.fraction_part.Tie as tie
 
 enum-told : tie.Need-enum-told
 enum-told c = search needs

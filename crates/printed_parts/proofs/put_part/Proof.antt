@@ -1,14 +1,14 @@
--- `printer::parts::put_part`: with a mark, or with none.
+-- `printed_parts::put_part`: with a mark, or with none.
 use mathlib.Core.Path.{_≡_, _∙_}
 use Prim.Native.Nat.{_+_}
 use native.Mathlib.Omega.{arith}
 use native.Mathlib.Numerals.{add-one}
 use lib.ListN.{length, length-set}
 use borrow.Author.Needs.{needs}
-use Rattle.printer.proofs.Text.{marked-length, bare-length}
-use Rattle.printer.specs.Parts.{partText}
-use Rattle.printer.proofs.parts.put_part.Statement.{statement}
-use Rattle.printer.proofs.parts.put_part.Tie as tie
+use Rattle.printed_parts.proofs.Lengths.{marked-length, bare-length}
+use Rattle.printed_parts.specs.Parts.{partText}
+use Rattle.printed_parts.proofs.put_part.Statement.{statement}
+use Rattle.printed_parts.proofs.put_part.Tie as tie
 
 marked : (k : tie.Then1) → let a = k .before .before .args in length (partText (a .mark) (a .p)) ≡ a .p .width + 1
 marked k = marked-length _ _ (k .if1 .taken)

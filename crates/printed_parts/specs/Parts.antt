@@ -4,7 +4,7 @@ use mathlib.Core.List.{List, [], _∷_, _++_}
 use mathlib.Core.Path.{_≡_}
 use Prim.Native.Nat.{ℕ, _^_, _≤_, _<_}
 use Rattle.digits.specs.Digits.{digits}
-use Rattle.printer.specs.declared.parts.Part.{Part}
+use Rattle.printed_parts.specs.declared.Part.{Part}
 
 -- a part's text: its mark, if it has one, and its digits
 unfoldable pub partText : ℕ → Part → List ℕ
