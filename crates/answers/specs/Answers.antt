@@ -6,8 +6,8 @@ use lib.IntN.{ℤ}
 use Rattle.errors.specs.Refusals.{Refusal, Outcome, gives, refuses, refusesInRangeError}
 use Rattle.durations.specs.declared.Ordering.{Ordering}
 use Rattle.durations.specs.declared.Ordering.the-variants.{Less, Equal, Greater}
-use Rattle.words.specs.Words.{bytes, wordAt}
-use Rattle.texts.specs.Texts.{natural, integer}
+use Rattle.texts.specs.Texts.{bytes, natural, integer}
+use Rattle.words.specs.Words.{wordAt}
 
 -- the names in document 01's table, from number 0 on
 abbrev pub names : List ℕ

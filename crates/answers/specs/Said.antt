@@ -3,8 +3,8 @@ use mathlib.Core.List.{List, _++_}
 use Prim.Native.Nat.{ℕ}
 use Rattle.errors.specs.Refusals.{gives}
 use Rattle.errors.specs.Told.{told}
-use Rattle.words.specs.Words.{bytes, wordAt}
-use Rattle.texts.specs.Texts.{natural, integer}
+use Rattle.texts.specs.Texts.{bytes, natural, integer}
+use Rattle.words.specs.Words.{wordAt}
 use Rattle.answers.specs.Answers.{line, timeLine, durationLine, malformed}
 use Rattle.answers.specs.declared.said.Said.{Said}
 use Rattle.answers.specs.declared.said.Said.the-variants.{Time, Unix, Lasts, Number, Word, Refused, Malformed}

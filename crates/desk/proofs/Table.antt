@@ -7,7 +7,8 @@ use native.Mathlib.Omega.{arith}
 use lib.IntN.{ℤ, pos, negsuc}
 use lib.ListN.{length, take, drop, getD, List·getD-eq-default}
 use borrow.Author.Tests.{le-ltb}
-use Rattle.words.specs.Words.{bytes, byWord, wordLength, fieldLength, fieldWord, restAt, wordAt}
+use Rattle.texts.specs.Texts.{bytes}
+use Rattle.words.specs.Words.{byWord, wordLength, fieldLength, fieldWord, restAt, wordAt}
 use Rattle.words.specs.Numbers.{wholeAt}
 use Rattle.words.specs.Tables.{rowFrom, epochRow}
 use Rattle.words.specs.Rows.{fits}

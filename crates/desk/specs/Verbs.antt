@@ -11,11 +11,11 @@ use Rattle.reader.specs.Stamp.{readText}
 use Rattle.printed_parts.specs.declared.Precision.{Precision}
 use Rattle.printed_parts.specs.declared.Precision.the-variants.{Default, Digits}
 use Rattle.printer.specs.Display.{timeText, displayed}
-use Rattle.words.specs.Words.{bytes, alike, byWord, restAt, wordAt}
+use Rattle.texts.specs.Texts.{bytes, alike, natural, integer}
+use Rattle.words.specs.Words.{byWord, restAt, wordAt}
 use Rattle.words.specs.Numbers.{wholeAt, naturalAt}
-use Rattle.words.specs.Hex.{hexBytes}
+use Rattle.texts.specs.Hex.{hexBytes, hexText}
 use Rattle.words.specs.Rows.{fits}
-use Rattle.texts.specs.Texts.{natural, integer, hexText}
 use Rattle.answers.specs.Answers.{line, timeLine, durationLine, orderText, malformed}
 
 -- the epochs that have names

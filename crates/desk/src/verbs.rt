@@ -9,7 +9,7 @@ use counts::TaiTime;
 use counts::UnixSeconds;
 use fields::bytes::skip;
 use reader::from_str;
-use words::hex::unhex;
+use texts::hex::unhex;
 use words::values::i32_at;
 use words::values::i64_at;
 use words::values::u8_at;

@@ -13,7 +13,8 @@ use mir.Syntax.{w64}
 use mir.Val.{SFits, ofZ}
 use borrow.Author.Tests.{lt-ltb, le-ltb}
 use Rattle.digits.proofs.Stores.{sets-append}
-use Rattle.texts.specs.Texts.{inPlaces, natural, integer, digitPairs, Put}
+use Rattle.texts.specs.Texts.{inPlaces, natural, integer, Put}
+use Rattle.texts.specs.Hex.{digitPairs}
 
 pub put-on : {s l m : List ℕ} {at r q : ℕ} {text more : List ℕ} → Put s at text l r → Put l r more m q → Put s at (text ++ more) m q
 put-on {s} {at = at} {text = text} {more = more} a b =

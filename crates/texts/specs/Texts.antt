@@ -1,14 +1,26 @@
--- Numbers and HEX as an answer has them.
-use mathlib.Core.Bool.{cond}
+-- Texts and numbers as lists of bytes.
+use mathlib.Core.Bool.{Bool, true, false, cond, _&&_}
 use mathlib.Core.List.{List, [], _∷_, _++_}
 use mathlib.Core.Path.{_≡_}
+use Prim.Native.Char.{code}
 use Prim.Native.Nat.{ℕ, zero, suc, _+_, _/_, _%_}
+use Prim.Native.String.{String, [] as noText, _∷_ as _then_}
 use lib.Dec.{eqb, ltb}
 use lib.IntN.{ℤ, pos, negsuc}
 use lib.ListN.{length}
 use lib.Seq.{sets}
-use Rattle.words.specs.Words.{bytes}
-use Rattle.words.specs.Hex.{digitOf}
+
+-- the bytes of a quoted text
+abbrev pub bytes : String → List ℕ
+bytes noText = []
+bytes (c then s) = code c ∷ bytes s
+
+-- two texts are the same, byte for byte
+unfoldable pub alike : List ℕ → List ℕ → Bool
+alike [] [] = true
+alike [] (y ∷ t) = false
+alike (x ∷ s) [] = false
+alike (x ∷ s) (y ∷ t) = eqb x y && alike s t
 
 -- a number in at most k digits, no needless zero: the digits of its tenth, and the last one (`0` is 48)
 unfoldable pub inPlaces : ℕ → ℕ → List ℕ
@@ -23,15 +35,6 @@ natural n = inPlaces 20 n
 unfoldable pub integer : ℤ → List ℕ
 integer (pos n) = natural n
 integer (negsuc n) = 45 ∷ natural (suc n)
-
--- two digits for each byte
-unfoldable pub digitPairs : List ℕ → List ℕ
-digitPairs [] = []
-digitPairs (b ∷ s) = digitOf (b / 16) ∷ digitOf (b % 16) ∷ digitPairs s
-
--- the HEX of bytes, `-` of none
-unfoldable pub hexText : List ℕ → List ℕ
-hexText s = cond (eqb (length s) 0) (bytes "-") (digitPairs s)
 
 -- of a line s a text was written from `at` on, and nothing else: it is l then, and `behind` is the place behind the text
 pub record Put (s : List ℕ) (at : ℕ) (text : List ℕ) (l : List ℕ) (behind : ℕ) : Type 0 where

@@ -1,11 +1,28 @@
-// Texts, numbers and HEX, written from a place on. Each function answers with the place behind what it wrote.
+// Texts: compared, and written from a place on, with numbers. What writes answers with the place behind what it wrote.
+pub mod hex; // bytes as hexadecimal digits, read and written
+
 use integers::to_bits;
-use words::hex::digit;
+ghost use mathlib.Core.Path.{_≡_};
 ghost use mathlib.Core.List.{_++_};
-ghost use Prim.Native.Nat.{_+_, _*_, _≤_, _<_};
+ghost use Prim.Native.Nat.{_+_, _≤_};
 ghost use lib.ListN.{length};
-ghost use Rattle.words.specs.Words.{bytes as bytesOf};
-ghost use Rattle.texts.specs.Texts.{natural, integer, hexText, Put};
+ghost use Rattle.texts.specs.Texts.{bytes as bytesOf, alike, natural, integer, Put};
+
+pub fn same(s: &[u8], t: &[u8]) -> bool
+    ensures { λ r. ⌜ r ≡ alike (now (s .entry)) (now (t .entry)) ⌝ }
+{
+    if s.len() != t.len() {
+        return false;
+    }
+    let mut i = 0;
+    while i < s.len() {
+        if s[i] != t[i] {
+            return false;
+        }
+        i += 1;
+    }
+    true
+}
 
 // The text, as it is.
 pub fn put(out: &mut [u8], at: usize, text: &[u8]) -> usize
@@ -55,26 +72,4 @@ pub fn put_behind_blank(out: &mut [u8], at: usize, n: u64) -> usize
 {
     out[at] = b' ';
     put_natural(out, at + 1, n)
-}
-
-// The HEX of bytes.
-pub fn put_hex(out: &mut [u8], at: usize, bytes: &[u8]) -> usize
-    requires { ⌜ at + 2 * length (now bytes) < length (now out) ⌝ }
-    ensures { λ r. ⌜ Put (now (out .entry)) at (hexText (now (bytes .entry))) (now (out .exit)) r ⌝ }
-    ensures { λ r. ⌜ r ≤ at + 2 * length (now (bytes .entry)) + 1 ⌝ }
-{
-    if bytes.len() == 0 {
-        out[at] = b'-';
-        return at + 1;
-    }
-    let mut i = 0;
-    let mut next = at;
-    while i < bytes.len() {
-        let byte = bytes[i];
-        out[next] = digit(byte / 16);
-        out[next + 1] = digit(byte % 16);
-        next += 2;
-        i += 1;
-    }
-    next
 }

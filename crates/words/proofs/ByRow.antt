@@ -5,7 +5,8 @@ use mathlib.Core.List.{List}
 use Prim.Native.Nat.{ℕ, zero, suc, _+_, _-_, _<_}
 use native.Mathlib.Numerals.{sub-one}
 use native.Mathlib.Omega.{arith}
-use Rattle.words.specs.Words.{alike, fieldWord, restAt}
+use Rattle.texts.specs.Texts.{alike}
+use Rattle.words.specs.Words.{fieldWord, restAt}
 use Rattle.words.specs.Tables.{rowFrom}
 
 pub row-found : (words left k : ℕ) (word table : List ℕ) → 0 < left → alike word (fieldWord table) ≡ true → k ≡ rowFrom words left k word table

@@ -3,4 +3,3 @@ pub mod Decimal
 pub mod ByRow
 pub mod Ranges
 pub mod Fitting
-pub mod Hexes

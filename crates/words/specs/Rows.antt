@@ -8,10 +8,11 @@ use lib.ListN.{length, drop}
 use Rattle.fields.specs.Numbers.{beginsWith}
 use Rattle.fields.specs.declared.numbers.Number.{Number}
 use Rattle.fields.specs.declared.numbers.Number.the-variants as Number
-use Rattle.words.specs.Words.{bytes, alike, byWord, fieldLength, fieldWord}
+use Rattle.texts.specs.Texts.{bytes, alike}
+use Rattle.words.specs.Words.{byWord, fieldLength, fieldWord}
 use Rattle.words.specs.Numbers.{unsigned, signed}
 use Rattle.words.specs.Tables.{epochRow}
-use Rattle.words.specs.Hex.{isHex}
+use Rattle.texts.specs.Hex.{isHex}
 use Rattle.words.specs.declared.numbers.Signed.{Signed}
 use Rattle.words.specs.declared.numbers.Signed.the-variants as Signed
 

@@ -2,7 +2,8 @@
 use mathlib.Core.Bool.{cond}
 use mathlib.Core.List.{List}
 use Prim.Native.Nat.{ℕ, zero, suc, _+_}
-use Rattle.words.specs.Words.{bytes, alike, fieldWord, restAt}
+use Rattle.texts.specs.Texts.{bytes, alike}
+use Rattle.words.specs.Words.{fieldWord, restAt}
 
 -- the number of the row that a word names, of so many rows that stand behind k others; or how many there are in all
 unfoldable pub rowFrom : ℕ → ℕ → ℕ → List ℕ → List ℕ → ℕ

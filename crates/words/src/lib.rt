@@ -1,5 +1,5 @@
 // The words of a line: what stands between blanks, and what it says.
-pub mod hex; // bytes in HEX
+
 pub mod numbers; // decimal numbers
 pub mod rows; // rows of kinds
 pub mod tables; // names, and what stands for each

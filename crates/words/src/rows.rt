@@ -1,5 +1,4 @@
 // A row of kinds: what words stand behind a verb.
-use crate::hex::is_hex;
 use crate::numbers::Signed;
 use crate::numbers::TOP;
 use crate::numbers::parse_signed;
@@ -7,10 +6,11 @@ use crate::numbers::parse_unsigned;
 use crate::tables::epoch_row;
 use crate::words::field_length;
 use crate::words::field_word;
-use crate::words::same;
 use fields::bytes::begins_with;
 use fields::bytes::skip;
 use fields::numbers::Number;
+use texts::hex::is_hex;
+use texts::same;
 ghost use mathlib.Core.Path.{_≡_};
 ghost use Rattle.words.specs.Rows.{isSigned, isNumber, good, fits};
 

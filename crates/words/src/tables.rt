@@ -1,7 +1,7 @@
 // A table is a line of rows, each of so many words, of which the first is the row's name.
 use crate::words::field_word;
 use crate::words::rest_at;
-use crate::words::same;
+use texts::same;
 ghost use mathlib.Core.Path.{_≡_};
 ghost use Prim.Native.Nat.{_+_, _≤_};
 ghost use Rattle.words.specs.Tables.{rowFrom, epochRow};

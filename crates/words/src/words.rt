@@ -4,7 +4,7 @@ use fields::bytes::skip;
 ghost use mathlib.Core.Path.{_≡_};
 ghost use Prim.Native.Nat.{_≤_};
 ghost use lib.ListN.{length};
-ghost use Rattle.words.specs.Words.{wordLength, alike, fieldLength, fieldWord, restAt, wordAt};
+ghost use Rattle.words.specs.Words.{wordLength, fieldLength, fieldWord, restAt, wordAt};
 
 // How many bytes stand before the first blank.
 pub fn word_length(s: &[u8]) -> usize
@@ -19,22 +19,6 @@ pub fn word_length(s: &[u8]) -> usize
         i += 1;
     }
     i
-}
-
-pub fn same(s: &[u8], t: &[u8]) -> bool
-    ensures { λ r. ⌜ r ≡ alike (now (s .entry)) (now (t .entry)) ⌝ }
-{
-    if s.len() != t.len() {
-        return false;
-    }
-    let mut i = 0;
-    while i < s.len() {
-        if s[i] != t[i] {
-            return false;
-        }
-        i += 1;
-    }
-    true
 }
 
 // How many bytes the field in front has; 0 where no blank is in front.

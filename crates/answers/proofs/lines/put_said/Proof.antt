@@ -6,7 +6,7 @@ use mir.Facts.{toZ-ofZ}
 use mir.Syntax.{w64}
 use mir.Val.{SFits}
 use borrow.Author.Needs.{needs}
-use Rattle.words.specs.Words.{bytes}
+use Rattle.texts.specs.Texts.{bytes}
 use Rattle.words.proofs.Splits.{word-within}
 use Rattle.texts.proofs.Puts.{put-on}
 use Rattle.answers.proofs.lines.put_said.Statement.{statement}

@@ -1,7 +1,7 @@
 -- `words::rows::is_good`.
 use borrow.Author.Needs.{needs}
 use borrow.Author.Tests.{ne-eqb, lt-ltb, le-ltb}
-use Rattle.words.specs.Words.{alike}
+use Rattle.texts.specs.Texts.{alike}
 use Rattle.words.specs.Rows.{good}
 use Rattle.words.proofs.rows.is_good.Statement.{statement}
 use Rattle.words.proofs.rows.is_good.Tie as tie

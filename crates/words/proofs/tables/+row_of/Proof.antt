@@ -8,7 +8,7 @@ use Rattle.words.specs.Tables.{rowFrom}
 use Rattle.words.proofs.ByRow.{row-found, row-more}
 use Rattle.words.proofs.words.field_word.Reads as field-word
 use Rattle.words.proofs.words.rest_at.Reads as rest-at
-use Rattle.words.proofs.words.same.Reads as same
+use Rattle.texts.proofs.same.Reads as same
 use Rattle.words.proofs.tables.row_of.Reads as reads
 use Rattle.words.proofs.tables.row_of.Kinds.{ps}
 use Rattle.words.proofs.tables.+row_of.Lts-row_of as lts

@@ -1,4 +1,4 @@
--- `words::hex::unhex`. The invariant: the bytes of the digits before i stand in front; the measure: the digits left.
+-- `texts::hex::unhex`. The invariant: the bytes of the digits before i stand in front; the measure: the digits left.
 use mathlib.Core.Path.{_≡_, refl, sym, _∙_}
 use mathlib.Core.List.{List, [], _∷_, _++_, append-nil, append-assoc}
 use Prim.Native.Nat.{ℕ, suc, _+_, _-_, _*_, _≤_}
@@ -7,9 +7,9 @@ use native.Mathlib.Omega.{arith}
 use lib.ListN.{length, take, drop, length-set, length-drop}
 use lib.Seq.{drop-cons, take-suc-set}
 use borrow.Author.Needs.{needs}
-use Rattle.words.specs.Hex.{hexBytes}
-use Rattle.words.proofs.hex.unhex.Statement.{statement}
-use Rattle.words.proofs.hex.unhex.Tie as tie
+use Rattle.texts.specs.Hex.{hexBytes}
+use Rattle.texts.proofs.hex.unhex.Statement.{statement}
+use Rattle.texts.proofs.hex.unhex.Tie as tie
 
 end : (s : List ℕ) → length s ≤ 1 → hexBytes s ≡ []
 unfolding hexBytes

@@ -1,4 +1,4 @@
--- `words::hex::is_hex`. The invariant: the digits are still to be seen from i on; the measure: the bytes left.
+-- `texts::hex::is_hex`. The invariant: the digits are still to be seen from i on; the measure: the bytes left.
 use mathlib.Core.Path.{_≡_, refl, _∙_}
 use mathlib.Core.Bool.{and-false, and-true}
 use Prim.Native.Nat.{_-_, _%_, _≤_}
@@ -8,9 +8,9 @@ use lib.ListN.{length, drop, drop-of-length-le}
 use lib.Seq.{drop-cons}
 use borrow.Author.Needs.{needs}
 use borrow.Author.Tests.{eq-eqb, ne-eqb}
-use Rattle.words.specs.Hex.{allDigits, isHex}
-use Rattle.words.proofs.hex.is_hex.Statement.{statement}
-use Rattle.words.proofs.hex.is_hex.Tie as tie
+use Rattle.texts.specs.Hex.{allDigits, isHex}
+use Rattle.texts.proofs.hex.is_hex.Statement.{statement}
+use Rattle.texts.proofs.hex.is_hex.Tie as tie
 
 pub is-hex-spec : {M : Type 1} → statement M
 unfolding allDigits isHex

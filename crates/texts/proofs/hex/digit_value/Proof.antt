@@ -1,10 +1,10 @@
--- `words::hex::digit_value`: each test is one of the definition's.
+-- `texts::hex::digit_value`: each test is one of the definition's.
 use native.Mathlib.Omega.{arith}
 use borrow.Author.Tests.{lt-leb, le-leb}
 use borrow.Author.Needs.{needs}
-use Rattle.words.specs.Hex.{digitValue}
-use Rattle.words.proofs.hex.digit_value.Statement.{statement}
-use Rattle.words.proofs.hex.digit_value.Tie as tie
+use Rattle.texts.specs.Hex.{digitValue}
+use Rattle.texts.proofs.hex.digit_value.Statement.{statement}
+use Rattle.texts.proofs.hex.digit_value.Tie as tie
 
 pub digit-value-spec : {M : Type 1} → statement M
 unfolding digitValue

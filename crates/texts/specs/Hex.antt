@@ -2,10 +2,10 @@
 use mathlib.Core.Bool.{Bool, true, cond, _&&_}
 use mathlib.Core.List.{List, [], _∷_}
 use mathlib.Core.Path.{_≡_}
-use Prim.Native.Nat.{ℕ, _+_, _-_, _*_, _%_, _≤_}
+use Prim.Native.Nat.{ℕ, _+_, _-_, _*_, _/_, _%_, _≤_}
 use lib.Dec.{eqb, ltb, leb}
 use lib.ListN.{length, take, getD}
-use Rattle.words.specs.Words.{bytes, alike}
+use Rattle.texts.specs.Texts.{bytes, alike}
 
 -- the digit of a value below 16
 abbrev pub digitOf : ℕ → ℕ
@@ -38,3 +38,12 @@ pub record Unhexed (s l : List ℕ) (n : ℕ) : Type 0 where
   pub front : take n l ≡ hexBytes s
   pub within : n ≤ length l
   pub half : 2 * n ≤ length s
+
+-- two digits for each byte
+unfoldable pub digitPairs : List ℕ → List ℕ
+digitPairs [] = []
+digitPairs (b ∷ s) = digitOf (b / 16) ∷ digitOf (b % 16) ∷ digitPairs s
+
+-- the HEX of bytes, `-` of none
+unfoldable pub hexText : List ℕ → List ℕ
+hexText s = cond (eqb (length s) 0) (bytes "-") (digitPairs s)

@@ -1,4 +1,4 @@
--- `texts::put_hex`. The invariant: the pairs of the bytes that are left are still to be written; the measure: the bytes left.
+-- `texts::hex::put_hex`. The invariant: the pairs of the bytes that are left are still to be written; the measure: the bytes left.
 use mathlib.Core.Path.{_≡_, refl, sym, _∙_}
 use Prim.Native.Nat.{suc, _+_, _-_, _*_, _≤_}
 use native.Mathlib.Numerals.{add-one}
@@ -7,10 +7,10 @@ use lib.ListN.{length, drop, length-set, drop-of-length-le}
 use lib.Seq.{sets, drop-cons}
 use borrow.Author.Needs.{needs}
 use borrow.Author.Tests.{eq-eqb, ne-eqb}
-use Rattle.texts.specs.Texts.{digitPairs, hexText}
+use Rattle.texts.specs.Hex.{digitPairs, hexText}
 use Rattle.texts.proofs.Puts.{pairs-length}
-use Rattle.texts.proofs.put_hex.Statement.{statement}
-use Rattle.texts.proofs.put_hex.Tie as tie
+use Rattle.texts.proofs.hex.put_hex.Statement.{statement}
+use Rattle.texts.proofs.hex.put_hex.Tie as tie
 
 pub put-hex-spec : {M : Type 1} → statement M
 unfolding digitPairs hexText

@@ -1,12 +1,13 @@
 // HEX: bytes as pairs of lower-case hexadecimal digits, `-` for none.
-use crate::words::same;
+use crate::same;
 ghost use mathlib.Core.Path.{_≡_};
-ghost use Prim.Native.Nat.{_*_, _≤_, _<_};
+ghost use Prim.Native.Nat.{_+_, _*_, _≤_, _<_};
 ghost use lib.ListN.{length};
-ghost use Rattle.words.specs.Hex.{digitOf, digitValue, isHex, Unhexed};
+ghost use Rattle.texts.specs.Texts.{Put};
+ghost use Rattle.texts.specs.Hex.{digitOf, digitValue, isHex, hexText, Unhexed};
 
 // The digit of a value below 16.
-pub fn digit(value: u8) -> u8
+fn digit(value: u8) -> u8
     requires { ⌜ value < 16 ⌝ }
     ensures { λ r. ⌜ r ≡ digitOf value ⌝ }
 {
@@ -66,4 +67,26 @@ pub fn unhex(hex: &[u8], bytes: &mut [u8]) -> usize
         i += 2;
     }
     n
+}
+
+// The HEX of bytes, from the place at on, and the place behind it.
+pub fn put_hex(out: &mut [u8], at: usize, bytes: &[u8]) -> usize
+    requires { ⌜ at + 2 * length (now bytes) < length (now out) ⌝ }
+    ensures { λ r. ⌜ Put (now (out .entry)) at (hexText (now (bytes .entry))) (now (out .exit)) r ⌝ }
+    ensures { λ r. ⌜ r ≤ at + 2 * length (now (bytes .entry)) + 1 ⌝ }
+{
+    if bytes.len() == 0 {
+        out[at] = b'-';
+        return at + 1;
+    }
+    let mut i = 0;
+    let mut next = at;
+    while i < bytes.len() {
+        let byte = bytes[i];
+        out[next] = digit(byte / 16);
+        out[next + 1] = digit(byte % 16);
+        next += 2;
+        i += 1;
+    }
+    next
 }
