@@ -1,1 +1,1 @@
-mod Refusals
+pub mod Refusals

@@ -6,8 +6,8 @@ use Rattle.errors.specs.Told.{told}
 use Rattle.texts.specs.Texts.{bytes, natural, integer}
 use Rattle.words.specs.Words.{wordAt}
 use Rattle.answers.specs.Answers.{line, timeLine, durationLine, malformed}
-use Rattle.answers.specs.declared.said.Said.{Said}
-use Rattle.answers.specs.declared.said.Said.the-variants.{Time, Unix, Lasts, Number, Word, Refused, Malformed}
+use Rattle.answers.specs.declared.Said.{Said}
+use Rattle.answers.specs.declared.Said.the-variants.{Time, Unix, Lasts, Number, Word, Refused, Malformed}
 
 abbrev pub saidText : Said → List ℕ
 saidText (Time t) = timeLine (gives (t .secs, t .nanos))

@@ -1,3 +1,97 @@
-// What an entry answered, and the line that says it.
-pub mod lines; // the line, written
-pub mod said; // the one form of all answers
+// What an entry answered, in one form for all, and the line that says it.
+use counts::Duration;
+use counts::TaiTime;
+use counts::UnixSeconds;
+use errors::Refusal;
+use texts::put;
+use texts::put_behind_blank;
+use texts::put_integer;
+use texts::put_natural;
+use words::words::word_at;
+ghost use Prim.Native.Nat.{_+_, _≤_};
+ghost use lib.ListN.{length};
+ghost use Rattle.errors.specs.Told.{told};
+ghost use Rattle.texts.specs.Texts.{natural, Put};
+ghost use Rattle.words.specs.Words.{wordAt};
+ghost use Rattle.answers.specs.Answers.{names, mark, line};
+ghost use Rattle.answers.specs.Said.{saidText};
+
+pub enum Said {
+    Time(TaiTime),
+    Unix(UnixSeconds),
+    Lasts(Duration),
+    Number(u64),
+    Word(usize), // of `earlier same later`
+    Refused(Refusal),
+    Malformed,
+}
+
+fn put_mark(out: &mut [u8], at: usize, in_range_error: bool) -> usize
+    requires { ⌜ at + 11 ≤ length (now out) ⌝ }
+    ensures { λ r. ⌜ Put (now (out .entry)) at (mark «in_range_error») (now (out .exit)) r ⌝ }
+    ensures { λ r. ⌜ r ≤ at + 11 ⌝ }
+{
+    if in_range_error {
+        return put(out, at, b"RangeError ");
+    }
+    at
+}
+
+fn put_name(out: &mut [u8], at: usize, number: u8) -> usize
+    requires { ⌜ at + 17 ≤ length (now out) ⌝ }
+    ensures { λ r. ⌜ Put (now (out .entry)) at (wordAt number names) (now (out .exit)) r ⌝ }
+    ensures { λ r. ⌜ r ≤ at + 17 ⌝ }
+{
+    let names =
+        b" InvalidMonth InvalidDayOfMonth InvalidHour InvalidMinute InvalidSecond InvalidNanosecond OutOfRange MissingField InvalidFieldWidth InvalidFieldValue NotRepresentable BadNanos StartOutside NoRoom";
+    put(out, at, word_at(names, number as usize))
+}
+
+pub fn put_refusal(out: &mut [u8], refusal: Refusal) -> usize
+    requires { ⌜ 128 ≤ length (now out) ⌝ }
+    ensures { λ r. ⌜ Put (now (out .entry)) 0 (line natural (told refusal)) (now (out .exit)) r ⌝ }
+    ensures { λ r. ⌜ r ≤ 80 ⌝ }
+{
+    let at = put(out, 0, b"refused ");
+    let at = put_natural(out, at, refusal.number as u64);
+    let at = put(out, at, b" ");
+    let at = put_mark(out, at, refusal.in_range_error);
+    let at = put_name(out, at, refusal.number);
+    if refusal.valued {
+        return put_behind_blank(out, at, refusal.value as u64);
+    }
+    at
+}
+
+pub fn put_said(out: &mut [u8], said: Said) -> usize
+    requires { ⌜ 128 ≤ length (now out) ⌝ }
+    ensures { λ r. ⌜ Put (now (out .entry)) 0 (saidText said) (now (out .exit)) r ⌝ }
+    ensures { λ r. ⌜ r ≤ 80 ⌝ }
+{
+    match said {
+        Said::Time(t) => {
+            let at = put(out, 0, b"ok ");
+            let at = put_integer(out, at, t.secs);
+            put_behind_blank(out, at, t.nanos as u64)
+        }
+        Said::Unix(u) => {
+            let at = put(out, 0, b"ok ");
+            put_integer(out, at, u.0)
+        }
+        Said::Lasts(d) => {
+            let at = put(out, 0, b"ok ");
+            let at = put_natural(out, at, d.secs);
+            put_behind_blank(out, at, d.nanos as u64)
+        }
+        Said::Number(n) => {
+            let at = put(out, 0, b"ok ");
+            put_natural(out, at, n)
+        }
+        Said::Word(i) => {
+            let at = put(out, 0, b"ok ");
+            put(out, at, word_at(b" earlier same later", i))
+        }
+        Said::Refused(r) => put_refusal(out, r),
+        Said::Malformed => put(out, 0, b"malformed"),
+    }
+}

@@ -3,60 +3,16 @@ use mathlib.Core.Bool.{cond}
 use mathlib.Core.List.{List, [], _∷_, _++_}
 use Prim.Native.Nat.{ℕ}
 use Prim.Native.String.{String}
-use lib.IntN.{ℤ, pos, negsuc}
-use lib.ListN.{drop, getD}
+use lib.ListN.{getD}
 use Rattle.errors.specs.Refusals.{Outcome, gives}
 use Rattle.counts.specs.Counts.{goodNanos, newTime, fromDateTime, fromUnix, toUnix, overEpoch, added, taken, since, compared}
 use Rattle.reader.specs.Stamp.{readText}
-use Rattle.printed_parts.specs.declared.Precision.{Precision}
-use Rattle.printed_parts.specs.declared.Precision.the-variants.{Default, Digits}
 use Rattle.printer.specs.Display.{timeText, displayed}
 use Rattle.texts.specs.Texts.{bytes, alike, natural, integer}
-use Rattle.words.specs.Words.{byWord, restAt, wordAt}
-use Rattle.words.specs.Numbers.{wholeAt, naturalAt}
-use Rattle.texts.specs.Hex.{hexBytes, hexText}
+use Rattle.texts.specs.Hex.{hexText}
 use Rattle.words.specs.Rows.{fits}
 use Rattle.answers.specs.Answers.{line, timeLine, durationLine, orderText, malformed}
-
--- the epochs that have names
-abbrev pub epochs : List (String × ℤ)
-epochs =
-    ("monotonic", pos 0)
-    ∷ ("gps", pos 315964819)
-    ∷ ("gst", pos 935280019)
-    ∷ ("bdt", pos 1136073633)
-    ∷ ("tai1958", negsuc 378691199)
-    ∷ ("tai1972", pos 63072000)
-    ∷ []
-
--- the word n behind the verb as what it says, by the letter of its kind: `i` an i64, `y` an i32, `U` a u64, `u` a u32, `b` a u8
-abbrev i : ℕ → List ℕ → ℤ
-i = wholeAt 9223372036854775807
-
-abbrev y : ℕ → List ℕ → ℤ
-y = wholeAt 2147483647
-
-abbrev U : ℕ → List ℕ → ℕ
-U = naturalAt 18446744073709551615
-
-abbrev u : ℕ → List ℕ → ℕ
-u = naturalAt 4294967295
-
-abbrev b : ℕ → List ℕ → ℕ
-b = naturalAt 255
-
--- `e` an EPOCH, `p` a PRECISION, `x` the bytes of HEX, `t` all behind its blank; `.` in a row is the end of the line
-unfoldable pub e : ℕ → List ℕ → ℤ
-e n s = byWord (wordAt n s) (i n s) epochs
-
-unfoldable pub p : ℕ → List ℕ → Precision
-p n s = cond (alike (wordAt n s) (bytes "-")) Default (Digits (U n s))
-
-abbrev pub x : ℕ → List ℕ → List ℕ
-x n s = hexBytes (wordAt n s)
-
-abbrev pub t : ℕ → List ℕ → List ℕ
-t n s = drop 1 (restAt n s)
+use Rattle.entries.specs.Kinds.{e, i, y, U, u, b, p, x, t}
 
 -- the answer with lent bytes, which stand last as they are then
 abbrev pub lentLine : Outcome ℕ × List ℕ → List ℕ

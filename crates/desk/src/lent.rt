@@ -1,12 +1,12 @@
 // The verbs that print, and that write into lent bytes.
-use crate::parts::epoch_word;
-use crate::parts::precision_at;
-use crate::parts::time_at;
-use answers::lines::put_refusal;
-use answers::lines::put_said;
-use answers::said;
+use answers::put_refusal;
+use answers::put_said;
 use counts::Epoch;
 use counts::TaiTime;
+use entries::given::epoch_word;
+use entries::given::precision_at;
+use entries::given::time_at;
+use entries::said;
 use printer::Precision;
 use printer::Printed;
 use printer::display;

@@ -1,6 +1,5 @@
 // The desk program's requests: one line, one answer line.
 mod lent; // the verbs that print, and that write into lent bytes
-mod parts; // the words as values of the entries' types
 mod request; // a request to its answer
 mod verbs; // the verbs whose answer is said in one form
 

@@ -1,7 +1,7 @@
 // A request to its answer.
 use crate::lent;
 use crate::verbs::said_of;
-use answers::lines::put_said;
+use answers::put_said;
 use fields::bytes::skip;
 use texts::put;
 use words::rows::row_fits;

@@ -1,12 +1,12 @@
 // The verbs whose answer is said in one form, by their numbers in the table.
-use crate::parts::duration_at;
-use crate::parts::epoch_word;
-use crate::parts::time_at;
-use answers::said;
-use answers::said::Said;
+use answers::Said;
 use counts::LeapOffset;
 use counts::TaiTime;
 use counts::UnixSeconds;
+use entries::given::duration_at;
+use entries::given::epoch_word;
+use entries::given::time_at;
+use entries::said;
 use fields::bytes::skip;
 use reader::from_str;
 use texts::hex::unhex;

@@ -2,7 +2,7 @@
 use mathlib.Core.Path.{_≡_, refl}
 use mathlib.Core.Bool.{Bool, true, false, cond}
 use mathlib.Core.List.{List}
-use Prim.Native.Nat.{ℕ, zero, suc, _+_, _-_, _<_}
+use Prim.Native.Nat.{ℕ, zero, suc, _+_, _-_, _<_, _≤_}
 use native.Mathlib.Numerals.{sub-one}
 use native.Mathlib.Omega.{arith}
 use Rattle.texts.specs.Texts.{alike}
@@ -34,3 +34,7 @@ by-row f words (suc left) k word table = go (alike word (fieldWord table)) (by-r
         → f (cond b k (rowFrom words left (k + 1) word (restAt words table))) ≡ cond b (f k) (byRow f words left (k + 1) word (restAt words table))
     go true h = refl
     go false h = h
+
+-- a number that is not the next one either
+pub after : (n : ℕ) {k : ℕ} → n ≤ k → (k ≡ n → ⊥) → n + 1 ≤ k
+after n h e = omega arith

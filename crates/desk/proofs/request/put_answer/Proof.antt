@@ -6,11 +6,12 @@ use lib.ListN.{length, take, length-take, length-drop}
 use borrow.Author.Needs.{needs}
 use borrow.Author.Tests.{not-true, not-false}
 use Rattle.words.specs.Words.{wordAt}
+use Rattle.words.proofs.ByRow.{after}
 use Rattle.words.specs.Tables.{rowFrom}
 use Rattle.desk.specs.Verbs.{answerOf}
 use Rattle.desk.specs.Answers.{answerText}
 use Rattle.desk.proofs.Answered.{answer-too-long}
-use Rattle.desk.proofs.Table.{after, verbs, kinds, numbered, answer-by}
+use Rattle.desk.proofs.Table.{verbs, kinds, numbered, answer-by}
 use Rattle.desk.proofs.request.put_answer.Statement.{statement}
 use Rattle.desk.proofs.request.put_answer.Tie as tie
 

@@ -7,7 +7,8 @@ use borrow.Author.Needs.{needs}
 use Rattle.texts.specs.Texts.{integer}
 use Rattle.answers.specs.Answers.{line, timeLine}
 use Rattle.desk.specs.Verbs.{answerOf}
-use Rattle.desk.proofs.Table.{after, past}
+use Rattle.words.proofs.ByRow.{after}
+use Rattle.desk.proofs.Table.{past}
 use Rattle.desk.proofs.verbs.said_of.Statement.{statement}
 use Rattle.desk.proofs.verbs.said_of.Tie as tie
 

@@ -1,0 +1,61 @@
+// The words from place i on as values of the entries' types.
+use counts::Duration;
+use counts::Epoch;
+use counts::TaiTime;
+use printer::Precision;
+use texts::same;
+use words::tables::epoch_row;
+use words::values::i64_at;
+use words::values::u32_at;
+use words::values::u64_at;
+use words::words::word_at;
+ghost use mathlib.Core.Path.{_≡_};
+ghost use Prim.Native.Nat.{_+_, _≤_};
+ghost use Rattle.words.specs.Numbers.{wholeAt, naturalAt};
+ghost use Rattle.entries.specs.Kinds.{e as epochAt, p as precisionAt};
+
+pub fn epoch_word(s: &[u8], i: usize) -> Epoch
+    ensures { λ r. ⌜ r .0 ≡ epochAt i (now (s .entry)) ⌝ }
+{
+    match epoch_row(word_at(s, i)) {
+        0 => Epoch::MONOTONIC_TIME,
+        1 => Epoch::GPS_TIME,
+        2 => Epoch::GST_TIME,
+        3 => Epoch::BDT_TIME,
+        4 => Epoch::TAI_1958_TIME,
+        5 => Epoch::TAI_1972_TIME,
+        _ => Epoch(i64_at(s, i)),
+    }
+}
+
+pub fn time_at(s: &[u8], i: usize) -> TaiTime
+    requires { ⌜ i ≤ 1000 ⌝ }
+    ensures { λ r. ⌜ r .secs ≡ wholeAt 9223372036854775807 i (now (s .entry)) ⌝ }
+    ensures { λ r. ⌜ r .nanos ≡ naturalAt 4294967295 (i + 1) (now (s .entry)) ⌝ }
+{
+    TaiTime {
+        secs: i64_at(s, i),
+        nanos: u32_at(s, i + 1),
+    }
+}
+
+pub fn duration_at(s: &[u8], i: usize) -> Duration
+    requires { ⌜ i ≤ 1000 ⌝ }
+    ensures { λ r. ⌜ r .secs ≡ naturalAt 18446744073709551615 i (now (s .entry)) ⌝ }
+    ensures { λ r. ⌜ r .nanos ≡ naturalAt 4294967295 (i + 1) (now (s .entry)) ⌝ }
+{
+    Duration {
+        secs: u64_at(s, i),
+        nanos: u32_at(s, i + 1),
+    }
+}
+
+// `-` for absent.
+pub fn precision_at(s: &[u8], i: usize) -> Precision
+    ensures { λ r. ⌜ r ≡ precisionAt i (now (s .entry)) ⌝ }
+{
+    if same(word_at(s, i), b"-") {
+        return Precision::Default;
+    }
+    Precision::Digits(u64_at(s, i) as usize)
+}
