@@ -12,6 +12,7 @@ use Rattle.errors.specs.declared.ParseDateTimeError.the-variants.{MissingField,
 use Rattle.errors.specs.Refusals.{Refusal, refusal, ofParse}
 use Rattle.errors.specs.Told.{marked, told}
 use Rattle.errors.specs.declared.refusal.Refusal as Code
+use Rattle.bytes.specs.Bytes.{indexOf, indexAfter}
 use Rattle.words.specs.Words.{wordLength, fieldLength, fieldWord, restAt, wordAt}
 use Rattle.words.proofs.Splits.{word-within}
 use Rattle.texts.specs.Texts.{natural}
@@ -31,7 +32,7 @@ no-longer (suc left) (suc n) s =
     omega (arith, no-longer left n rest, le-max-right (length (fieldWord s)) (longest left rest))
 
 pub name-short : (n : ℕ) → length (wordAt n names) ≤ 17
-unfolding longest fieldWord fieldLength wordLength
+unfolding longest fieldWord fieldLength wordLength indexOf indexAfter
 name-short n = no-longer 14 n names
 
 pub told-text : (r : Code.Refusal) → line natural (told r) ≡ refusalText (r .in_range_error) (refusal (r .number) (cond (r .valued) (pos (r .value) ∷ []) []))

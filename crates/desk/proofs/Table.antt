@@ -6,6 +6,7 @@ use Prim.Native.Nat.{ℕ, _≤_}
 use lib.ListN.{length, take, drop, getD, List·getD-eq-default}
 use borrow.Author.Tests.{le-ltb}
 use Rattle.texts.specs.Texts.{bytes}
+use Rattle.bytes.specs.Bytes.{indexOf, indexAfter}
 use Rattle.words.specs.Words.{wordLength, fieldLength, fieldWord, restAt, wordAt}
 use Rattle.words.specs.Tables.{rowFrom}
 use Rattle.words.specs.Rows.{fits}
@@ -31,7 +32,7 @@ abbrev pub numbered : List ℕ → ℕ → List ℕ
 numbered s k = cond (fits (wordAt k kinds) s) (answerOf k s) malformed
 
 computed : (word s : List ℕ) → byRow (numbered s) 1 13 0 word verbs ≡ byVerb word s rows
-unfolding byRow wordAt restAt fieldLength fieldWord wordLength fits answerOf
+unfolding byRow wordAt restAt fieldLength fieldWord wordLength indexOf indexAfter fits answerOf
 computed word s = refl
 
 pub answer-by : (s : List ℕ) (k : ℕ) → length s ≤ 65535 → k ≡ rowFrom 1 13 0 (take (wordLength s) s) verbs → answerText s ≡ numbered (drop (wordLength s) s) k

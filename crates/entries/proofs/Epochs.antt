@@ -1,10 +1,11 @@
 -- The epochs by their numbers.
 use mathlib.Core.Path.{_≡_, refl, _∙_}
-use mathlib.Core.List.{List, [], _∷_}
+use mathlib.Core.List.{List, map}
 use Prim.Native.Nat.{ℕ, _≤_}
-use lib.IntN.{ℤ, pos, negsuc}
+use lib.IntN.{ℤ}
 use lib.ListN.{getD, List·getD-eq-default}
 use Rattle.texts.specs.Texts.{bytes}
+use Rattle.bytes.specs.Bytes.{indexOf, indexAfter}
 use Rattle.words.specs.Words.{byWord, wordLength, fieldLength, fieldWord, restAt, wordAt}
 use Rattle.words.specs.Numbers.{wholeAt}
 use Rattle.words.specs.Tables.{epochRow}
@@ -12,10 +13,10 @@ use Rattle.words.proofs.ByRow.{byRow, by-row}
 use Rattle.entries.specs.Kinds.{epochs, e as epochAt}
 
 unfoldable pub epochValues : List ℤ
-epochValues = pos 0 ∷ pos 315964819 ∷ pos 935280019 ∷ pos 1136073633 ∷ negsuc 378691199 ∷ pos 63072000 ∷ []
+epochValues = map (λ row. row .1) epochs
 
 computedEpochs : (word : List ℕ) (z : ℤ) → byRow (λ k. getD epochValues k z) 1 6 0 word (bytes " monotonic gps gst bdt tai1958 tai1972") ≡ byWord word z epochs
-unfolding epochValues byRow restAt fieldLength fieldWord wordLength
+unfolding epochValues byRow restAt fieldLength fieldWord wordLength indexOf indexAfter
 computedEpochs word z = refl
 
 pub epoch-by : (i k : ℕ) (s : List ℕ) → k ≡ epochRow (wordAt i s) → getD epochValues k (wholeAt 9223372036854775807 i s) ≡ epochAt i s

@@ -1,29 +1,21 @@
 -- Words, one byte after the other.
-use mathlib.Core.Path.{_≡_, refl}
+use mathlib.Core.Path.{_≡_, refl, _∙_}
 use mathlib.Core.Bool.{true, false}
 use mathlib.Core.List.{List, [], _∷_}
 use Prim.Native.Nat.{ℕ, zero, suc, _+_, _-_, _<_, _≤_}
-use native.Mathlib.Nat.{add-zero}
-use native.Mathlib.Numerals.{add-one, sub-one}
+use native.Mathlib.Nat.{zero-add}
+use native.Mathlib.Numerals.{sub-one}
 use native.Mathlib.Omega.{arith}
-use lib.ListN.{length, drop, getD, drop-of-length-le, length-take, length-drop}
-use lib.Seq.{drop-cons}
-use borrow.Author.Tests.{eq-eqb, ne-eqb}
+use lib.ListN.{length, drop, length-take, length-drop}
+use lib.Seq.{take-all}
+use Rattle.bytes.specs.Bytes.{indexOf, slice}
 use Rattle.fields.specs.Numbers.{beginsWith}
 use Rattle.words.specs.Words.{wordLength, fieldLength, fieldWord, restAt, wordAt}
 
-module _ (s : List ℕ) (i : ℕ) where
-  pub word-found : i < length s → getD s i 0 ≡ 32 → i + wordLength (drop i s) ≡ i
-  unfolding wordLength
-  word-found h e = rw (drop-cons s i 0 h, eq-eqb _ _ e, add-zero)
-
-  pub word-more : i < length s → (getD s i 0 ≡ 32 → ⊥) → i + wordLength (drop i s) ≡ i + 1 + wordLength (drop (i + 1) s)
-  unfolding wordLength
-  word-more h e = rw (drop-cons s i 0 h, ne-eqb _ _ e, add-one) (omega arith)
-
-  pub word-end : length s ≤ i → i + wordLength (drop i s) ≡ i
-  unfolding wordLength
-  word-end h = rw (drop-of-length-le s h, add-zero)
+-- the first of a byte in all of s
+pub found : (b : ℕ) (s : List ℕ) {n : ℕ} → n ≡ 0 + indexOf b (slice 0 (length s) s) → n ≡ indexOf b s
+unfolding slice
+found b s e = e ∙ rw (zero-add, take-all (length s) s (omega arith))
 
 pub field-blank : (s : List ℕ) → beginsWith 32 s ≡ true → 1 + wordLength (drop 1 s) ≡ fieldLength s
 unfolding beginsWith fieldLength

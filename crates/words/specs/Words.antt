@@ -5,12 +5,12 @@ use Prim.Native.Nat.{ℕ, zero, suc, _-_}
 use Prim.Native.String.{String}
 use lib.Dec.{eqb}
 use lib.ListN.{take, drop}
+use Rattle.bytes.specs.Bytes.{indexOf}
 use Rattle.texts.specs.Texts.{bytes, alike}
 
 -- how many bytes stand before the first blank (32): all where there is none
 unfoldable pub wordLength : List ℕ → ℕ
-wordLength [] = 0
-wordLength (x ∷ s) = cond (eqb x 32) 0 (suc (wordLength s))
+wordLength s = indexOf 32 s
 
 -- what stands in the word's row of a table, or another
 abbrev pub byWord : {A : Type 0} → List ℕ → A → List (String × A) → A

@@ -1,4 +1,5 @@
 // Words between blanks. A field is a blank and the word behind it.
+use bytes::scan::find;
 use fields::bytes::begins_with;
 use fields::bytes::skip;
 ghost use mathlib.Core.Path.{_≡_};
@@ -11,14 +12,7 @@ pub fn word_length(s: &[u8]) -> usize
     ensures { λ r. ⌜ r ≡ wordLength (now (s .entry)) ⌝ }
     ensures { λ r. ⌜ r ≤ length (now (s .entry)) ⌝ }
 {
-    let mut i = 0;
-    while i < s.len() {
-        if s[i] == b' ' {
-            return i;
-        }
-        i += 1;
-    }
-    i
+    find(s, 0, s.len(), b' ')
 }
 
 // How many bytes the field in front has; 0 where no blank is in front.

@@ -4,11 +4,4 @@ use Rattle.entries.proofs.said.date_time.Statement.{statement}
 use Rattle.entries.proofs.said.date_time.Tie as tie
 
 pub date-time-spec : {M : Type 1} → statement M
-date-time-spec =
-    tie.close
-    (tie.spec
-    (λ c. search needs)
-    (λ c. search needs)
-    (λ c κs. search needs)
-    (λ c. rw (c .before .a .given .1))
-    (λ c. rw (c .refusal .ensures, c .before .before .a2 .given .1)))
+date-time-spec = tie.close (tie.spec (λ c. search needs) (λ c. search needs) (λ c κs. search needs) (λ c. rw (c .before .a .given .1)) (λ c. rw (c .refusal .ensures, c .before .before .a2 .given .1)))

@@ -1,11 +1,12 @@
 -- `entries::said::ordering`.
 use borrow.Author.Needs.{needs}
+use Rattle.bytes.specs.Bytes.{indexOf, indexAfter}
 use Rattle.words.specs.Words.{wordLength, fieldLength, fieldWord, restAt, wordAt}
 use Rattle.entries.proofs.said.ordering.Statement.{statement}
 use Rattle.entries.proofs.said.ordering.Tie as tie
 
 pub ordering-spec : {M : Type 1} → statement M
-unfolding wordLength fieldLength fieldWord restAt wordAt
+unfolding wordLength indexOf indexAfter fieldLength fieldWord restAt wordAt
 ordering-spec =
     tie.close
     (tie.spec
