@@ -1,16 +1,14 @@
 -- The year that a text says is within the limit.
 use mathlib.Core.Path.{_≡_, refl, sym, subst}
-use mathlib.Core.Bool.{Bool, true, false, cond, _&&_}
+use mathlib.Core.Bool.{Bool, true, false}
 use mathlib.Core.List.{List}
 use Prim.Native.Nat.{ℕ, zero, suc, _≤_}
 use native.Mathlib.Omega.{arith}
-use lib.Dec.{ltb, leb}
+use lib.Dec.{leb}
 use lib.IntN.{ℤ, natAbs}
-use lib.ListN.{length, drop}
-use borrow.Author.Tests.{leb-true}
 use Rattle.errors.specs.declared.ParseDateTimeError.{ParseDateTimeError}
 use Rattle.errors.specs.declared.ParseDateTimeError.the-variants.{MissingField, InvalidFieldWidth, InvalidFieldValue}
-use Rattle.fields.specs.Numbers.{beginsWith, allDigits, decimal, digitsUpTo, number, onNumber}
+use Rattle.fields.specs.Numbers.{beginsWith, number, onNumber}
 use Rattle.fields.specs.Fields.{unless, width, before, delimited, behind, twoDigits, seconds}
 use Rattle.fields.specs.declared.numbers.Number.{Number}
 use Rattle.fields.specs.declared.numbers.Number.the-variants.{Value, Bad}
@@ -20,6 +18,7 @@ use Rattle.fields.specs.declared.delimited.Field.{Field}
 use Rattle.fields.specs.declared.delimited.Field.the-variants as Field
 use Rattle.fields.specs.declared.delimited.Seconds.{Seconds}
 use Rattle.fields.specs.declared.delimited.Seconds.the-variants as Seconds
+use Rattle.fields.proofs.Digits.{number-small}
 use Rattle.reader.specs.declared.date_time.DateTime.{DateTime}
 use Rattle.reader.specs.Text.{onField, field, onSeconds, fromMonth, withSign, fromYear, withoutSign, parsed}
 use Rattle.reader.specs.declared.date_time.Parsed.{Parsed}
@@ -62,25 +61,10 @@ module _ {limit : ℕ} where
   unless-within true p q h k = k
   unless-within false p q h k = h
 
--- a number is at most its limit
-digits-within : (limit : ℕ) (s : List ℕ) (v : ℕ) → digitsUpTo limit s ≡ Value v → v ≤ limit
-unfolding digitsUpTo
-digits-within limit s v e = go (ltb 0 (length s)) (allDigits s) (leb (decimal s) limit) refl e
-  where
-    go : (a b c : Bool) → leb (decimal s) limit ≡ c → cond (a && b && c) (Value (decimal s)) Bad ≡ Value v → v ≤ limit
-    go true true true p q = let r : decimal s ≡ v = cc in omega (arith, leb-true (decimal s) limit p)
-    go true true false p q = let z : _≡_ {A = ℕ} 0 1 = cc in absurd (omega arith)
-    go true false c p q = let z : _≡_ {A = ℕ} 0 1 = cc in absurd (omega arith)
-    go false b c p q = let z : _≡_ {A = ℕ} 0 1 = cc in absurd (omega arith)
-
 sign-size : (negative : Bool) (n : ℕ) → natAbs (withSign negative n) ≡ n
 sign-size true zero = refl
 sign-size true (suc n) = refl
 sign-size false n = refl
-
-number-within : (limit : ℕ) (s : List ℕ) (v : ℕ) → number limit s ≡ Value v → v ≤ limit
-unfolding number
-number-within limit s v e = digits-within limit (cond (beginsWith 43 s) (drop 1 s) s) v e
 
 pub year-within : (limit : ℕ) (s : List ℕ) → Within limit (parsed limit s)
 unfolding parsed fromYear
@@ -90,7 +74,7 @@ year-within limit s =
     unless-within (delimited Hyphen r) (Refused MissingField) _ refused
     (unless-within (leb 4 (width Hyphen r)) (Refused InvalidFieldWidth) _ refused
     (on-number (number limit (before Hyphen r)) (Refused InvalidFieldValue) (λ size. fromMonth (year size) (behind Hyphen r)) refused
-    λ v e. from-month (year v) (behind Hyphen r) (subst (λ n. n ≤ limit) (sym (sign-size (beginsWith 45 s) v)) (number-within limit (before Hyphen r) v e))))
+    λ v e. from-month (year v) (behind Hyphen r) (subst (λ n. n ≤ limit) (sym (sign-size (beginsWith 45 s) v)) (number-small limit (before Hyphen r) e))))
 
 -- as a caller has it
 pub within-limit : {limit : ℕ} {p : Parsed} {f : DateTime} → Within limit p → p ≡ Fields f → natAbs (f .year) ≤ limit
