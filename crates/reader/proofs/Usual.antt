@@ -1,6 +1,6 @@
 -- A text of the usual shape: its year and its fields, read at their places.
 use mathlib.Core.Path.{_≡_, refl, sym, ap, _∙_}
-use mathlib.Core.Bool.{true, cond, _&&_, _||_}
+use mathlib.Core.Bool.{true, cond, _&&_, _||_, and-eq-true-iff}
 use mathlib.Core.List.{List, [], _∷_}
 use Prim.Native.Nat.{ℕ, zero, suc, _+_, _-_, _*_, _<_, _≤_}
 use native.Mathlib.Nat.{add-zero, zero-add}
@@ -13,7 +13,6 @@ use lib.ListN.{length, drop, getD, length-drop, List·getD-eq-default}
 use lib.Seq.{drop-cons, drop-drop, getD-drop}
 use borrow.Author.Tests.{ne-eqb, le-leb, lt-ltb}
 use Rattle.calendar.proofs.Table.{below}
-use Rattle.seconds.proofs.Checks.{both}
 use Rattle.fields.specs.Numbers.{beginsWith, isDigit, allDigits, pairAt, decimalAfter, digitsUpTo, number}
 use Rattle.fields.specs.Fields.{isDelimiter, width, twoDigits, fraction, seconds}
 use Rattle.fields.specs.declared.delimited.Delimiter.{Delimiter}
@@ -56,14 +55,14 @@ pub fits-long : (shape s : List ℕ) → fits shape s ≡ true → length shape 
 unfolding fits
 fits-long [] s e = omega arith
 fits-long (b ∷ shape) [] e = let z : _≡_ {A = ℕ} 0 1 = cc in absurd (omega arith)
-fits-long (b ∷ shape) (x ∷ s) e = omega (arith, fits-long shape s (both (fitsByte b x) (fits shape s) e .1))
+fits-long (b ∷ shape) (x ∷ s) e = omega (arith, fits-long shape s (and-eq-true-iff (fitsByte b x) (fits shape s) .0 e .1))
 
 fits-at : (shape s : List ℕ) (k : ℕ) → fits shape s ≡ true → k < length shape → fitsByte (getD shape k 48) (getD s k 0) ≡ true
 unfolding fits
 fits-at [] s k e h = absurd (omega arith)
 fits-at (b ∷ shape) [] k e h = let z : _≡_ {A = ℕ} 0 1 = cc in absurd (omega arith)
-fits-at (b ∷ shape) (x ∷ s) zero e h = both (fitsByte b x) (fits shape s) e .0
-fits-at (b ∷ shape) (x ∷ s) (suc k) e h = fits-at shape s k (both (fitsByte b x) (fits shape s) e .1) (omega arith)
+fits-at (b ∷ shape) (x ∷ s) zero e h = and-eq-true-iff (fitsByte b x) (fits shape s) .0 e .0
+fits-at (b ∷ shape) (x ∷ s) (suc k) e h = fits-at shape s k (and-eq-true-iff (fitsByte b x) (fits shape s) .0 e .1) (omega arith)
 
 -- ---- the year
 year : (limit a b c d e : ℕ) (s : List ℕ) → Digit a → Digit b → Digit c → Digit d → isDelimiter Hyphen e ≡ true → 9999 ≤ limit
@@ -102,7 +101,7 @@ module _ (s : List ℕ) (i : ℕ) where
 module _ (s : List ℕ) (u : isUsual s ≡ true) where
   shape : (fits usualShape s ≡ true) × ((eqb (length s) 19 || isDelimiter Point (getD s 19 0)) ≡ true)
   unfolding isUsual
-  shape = both (fits usualShape s) (eqb (length s) 19 || isDelimiter Point (getD s 19 0)) u
+  shape = and-eq-true-iff (fits usualShape s) (eqb (length s) 19 || isDelimiter Point (getD s 19 0)) .0 u
 
   usual-long : 19 ≤ length s
   unfolding usualShape
