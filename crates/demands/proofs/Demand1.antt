@@ -17,10 +17,10 @@ use Rattle.durations.specs.declared.DurationAnswer.{DurationAnswer}
 use Rattle.durations.specs.declared.OrderingAnswer.{OrderingAnswer}
 use Rattle.counts.specs.Said.{saidTime, saidSecs, saidDateTime, saidUnix, saidDuration, saidOrdering}
 use Rattle.counts.specs.Counts.{newTime, fromDateTime, fromUnix, toUnix, overEpoch, added, taken, since, compared}
-use Rattle.reader.specs.declared.date_time.DateTime.{DateTime}
-use Rattle.reader.specs.declared.date_time.Parsed.the-variants.{Fields, Refused}
+use Rattle.stages.specs.declared.DateTime.{DateTime}
+use Rattle.stages.specs.declared.Parsed.the-variants.{Fields, Refused}
 use Rattle.reader.specs.declared.stamp.ReadAnswer.{ReadAnswer}
-use Rattle.reader.specs.Text.{parsed}
+use Rattle.stages.specs.Text.{parsed}
 use Rattle.reader.specs.Stamp.{saidRead, readText}
 use Rattle.printer.specs.declared.Printed.{Printed}
 use Rattle.printed_parts.specs.declared.Precision.{Precision}

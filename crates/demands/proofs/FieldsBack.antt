@@ -9,12 +9,12 @@ use lib.Seq.{drop-append-add, take-append-seam, take-all}
 use borrow.Author.Tests.{le-leb, lt-ltb, ne-eqb}
 use Rattle.fields.specs.Numbers.{beginsWith, isDigit, allDigits, decimalAfter}
 use Rattle.fields.specs.Fields.{isDelimiter, width, before, delimited, behind, twoDigits, nanoseconds, seconds}
-use Rattle.reader.specs.Text.{field, fromMonth, withSign, fromYear, withoutSign}
+use Rattle.stages.specs.Text.{field, fromMonth, withSign, fromYear, withoutSign}
 use Rattle.fields.specs.declared.delimited.Delimiter.{Delimiter}
 use Rattle.fields.specs.declared.delimited.Delimiter.the-variants.{Hyphen, SpaceOrT, Colon, Point}
 use Rattle.fields.specs.declared.delimited.Field.the-variants as Field
 use Rattle.fields.specs.declared.delimited.Seconds.the-variants as Seconds
-use Rattle.reader.specs.declared.date_time.Parsed.{Parsed}
+use Rattle.stages.specs.declared.Parsed.{Parsed}
 use Rattle.seconds.proofs.Checks.{both}
 use Rattle.fields.proofs.Tenths.{good-fraction}
 use Rattle.digits.specs.Digits.{digits}

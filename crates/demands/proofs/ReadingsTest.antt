@@ -15,16 +15,16 @@ use Rattle.moments.specs.Moments.{secondOfDay, secondsOf}
 use Rattle.counts.specs.Counts.{dateTimeSecs, fromDateTime, exact, timeAt, added}
 use Rattle.fields.specs.Numbers.{beginsWith, isDigit, allDigits, decimalAfter, digitsUpTo, number}
 use Rattle.fields.specs.Fields as Fields
-use Rattle.reader.specs.Text as Text
+use Rattle.stages.specs.Text as Text
 use Rattle.reader.specs.Stamp.{readText}
 use Rattle.digits.specs.Digits as Digits
 use Rattle.printed_parts.specs.Text as Parts
 use Rattle.printer.specs.Text as Printed
 use Rattle.errors.specs.Refusals.{Refusal, Outcome, gives, refuses, refusesInRangeError}
 use Rattle.moments.specs.declared.Moment.{Moment}
-use Rattle.reader.specs.Text.{parsed}
-use Rattle.reader.specs.declared.date_time.Parsed.{Parsed}
-use Rattle.reader.specs.declared.date_time.Parsed.the-variants.{Fields, Refused}
+use Rattle.stages.specs.Text.{parsed}
+use Rattle.stages.specs.declared.Parsed.{Parsed}
+use Rattle.stages.specs.declared.Parsed.the-variants.{Fields, Refused}
 use Rattle.printed_parts.specs.declared.Precision.the-variants.{Default}
 use Rattle.printer.specs.Text.{text}
 use Rattle.printer.specs.Line.{answer, lineAfter}

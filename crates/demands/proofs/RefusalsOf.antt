@@ -13,10 +13,10 @@ use Rattle.errors.specs.declared.ParseDateTimeError.the-variants.{MissingField,
 use Rattle.calendar.specs.Walk.{monthLength}
 use Rattle.moments.specs.Moments.{secondsOf}
 use Rattle.counts.specs.Counts.{check, representable, goodNanos, withNanos, newTime, dateTimeSecs, fromDateTime, fromUnix, toUnix, overEpoch, timeAt, durationAt, added, taken, since, compared}
-use Rattle.reader.specs.Text.{parsed}
+use Rattle.stages.specs.Text.{parsed}
 use Rattle.reader.specs.Stamp.{inRangeError, stamped, readText}
-use Rattle.reader.specs.declared.date_time.Parsed.{Parsed}
-use Rattle.reader.specs.declared.date_time.Parsed.the-variants as Parsed
+use Rattle.stages.specs.declared.Parsed.{Parsed}
+use Rattle.stages.specs.declared.Parsed.the-variants as Parsed
 use Rattle.printed_parts.specs.declared.Precision.{Precision}
 use Rattle.printer.specs.Line.{byRoom, answer}
 use Rattle.printer.specs.Display.{timeText, displayed}

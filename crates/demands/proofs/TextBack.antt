@@ -8,10 +8,10 @@ use lib.IntN.{ℤ, pos, negsuc, natAbs}
 use borrow.Author.Tests.{le-ltb}
 use Rattle.fields.specs.Numbers.{beginsWith}
 use Rattle.fields.specs.Fields.{isDelimiter}
-use Rattle.reader.specs.Text.{fromMonth, withoutSign, parsed}
+use Rattle.stages.specs.Text.{fromMonth, withoutSign, parsed}
 use Rattle.fields.specs.declared.delimited.Delimiter.the-variants.{Hyphen, SpaceOrT, Colon}
-use Rattle.reader.specs.declared.date_time.DateTime.{DateTime}
-use Rattle.reader.specs.declared.date_time.Parsed.the-variants.{Fields}
+use Rattle.stages.specs.declared.DateTime.{DateTime}
+use Rattle.stages.specs.declared.Parsed.the-variants.{Fields}
 use Rattle.printer.specs.declared.Stamp.{Stamp}
 use Rattle.printed_parts.specs.declared.Precision.the-variants.{Default}
 use Rattle.digits.specs.Digits.{digits, width}

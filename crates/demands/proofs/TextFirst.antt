@@ -13,7 +13,7 @@ use Rattle.errors.specs.declared.ParseDateTimeError.the-variants.{MissingField,
 use Rattle.counts.specs.Counts.{fromDateTime}
 use Rattle.fields.specs.Numbers.{beginsWith, allDigits, number, onNumber}
 use Rattle.fields.specs.Fields.{unless, width, before, delimited, behind, twoDigits, nanoseconds, fraction, withFraction, seconds}
-use Rattle.reader.specs.Text.{onField, field, onSeconds, fromMonth, withSign, fromYear, withoutSign, parsed}
+use Rattle.stages.specs.Text.{onField, field, onSeconds, fromMonth, withSign, fromYear, withoutSign, parsed}
 use Rattle.reader.specs.Stamp.{inRangeError, stamped, readText}
 use Rattle.fields.specs.declared.numbers.Number.{Number}
 use Rattle.fields.specs.declared.numbers.Number.the-variants.{Value, Bad}
@@ -23,9 +23,9 @@ use Rattle.fields.specs.declared.delimited.Field.{Field}
 use Rattle.fields.specs.declared.delimited.Field.the-variants as Field
 use Rattle.fields.specs.declared.delimited.Seconds.{Seconds}
 use Rattle.fields.specs.declared.delimited.Seconds.the-variants as Seconds
-use Rattle.reader.specs.declared.date_time.DateTime.{DateTime}
-use Rattle.reader.specs.declared.date_time.Parsed.{Parsed}
-use Rattle.reader.specs.declared.date_time.Parsed.the-variants.{Fields, Refused}
+use Rattle.stages.specs.declared.DateTime.{DateTime}
+use Rattle.stages.specs.declared.Parsed.{Parsed}
+use Rattle.stages.specs.declared.Parsed.the-variants.{Fields, Refused}
 use Rattle.demands.specs.Refused.{OnlyRefuses, in-range-error}
 use Rattle.demands.proofs.RefusalsOf.{dates, from-date-only}
 

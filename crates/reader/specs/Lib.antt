@@ -1,3 +1,1 @@
-pub mod Usual
-pub mod Text
 pub mod Stamp

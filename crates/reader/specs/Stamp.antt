@@ -4,9 +4,9 @@ use Prim.Native.Nat.{ℕ}
 use lib.IntN.{ℤ}
 use Rattle.errors.specs.Refusals.{Outcome, gives, refuses, refusesInRangeError, ofParse}
 use Rattle.counts.specs.Counts.{fromDateTime}
-use Rattle.reader.specs.Text.{parsed}
-use Rattle.reader.specs.declared.date_time.Parsed.{Parsed}
-use Rattle.reader.specs.declared.date_time.Parsed.the-variants as Parsed
+use Rattle.stages.specs.Text.{parsed}
+use Rattle.stages.specs.declared.Parsed.{Parsed}
+use Rattle.stages.specs.declared.Parsed.the-variants as Parsed
 use Rattle.reader.specs.declared.stamp.ReadAnswer.{ReadAnswer}
 use Rattle.reader.specs.declared.stamp.ReadAnswer.the-variants as Read
 

@@ -1,11 +1,11 @@
 // A text to a timestamp.
-use crate::date_time::Parsed;
 use crate::date_time::parse_date_time;
 use counts::Epoch;
 use counts::TaiTime;
 use dates::SecsAnswer;
 use dates::date_time_secs;
 use errors::ParseDateTimeError;
+use stages::Parsed;
 ghost use mathlib.Core.Path.{_≡_};
 ghost use Rattle.reader.specs.Stamp.{saidRead, readText};
 

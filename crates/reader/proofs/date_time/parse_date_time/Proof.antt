@@ -12,8 +12,8 @@ use Rattle.integers.proofs.Machine.{known64}
 use Rattle.errors.specs.declared.ParseDateTimeError.the-variants.{InvalidFieldValue}
 use Rattle.fields.specs.Numbers.{onNumber}
 use Rattle.fields.proofs.Digits.{number-small}
-use Rattle.reader.specs.Text.{parsed, fromYear, fromMonth, withSign}
-use Rattle.reader.specs.declared.date_time.Parsed.the-variants.{Refused}
+use Rattle.stages.specs.Text.{parsed, fromYear, fromMonth, withSign}
+use Rattle.stages.specs.declared.Parsed.the-variants.{Refused}
 use Rattle.reader.proofs.date_time.parse_date_time.Statement.{statement}
 use Rattle.reader.proofs.date_time.parse_date_time.Tie as tie
 

@@ -11,10 +11,10 @@ use Rattle.errors.specs.Refusals.{gives}
 use Rattle.counts.specs.Said.{saidSecs}
 use Rattle.counts.specs.Counts.{withNanos, dateTimeSecs, fromDateTime}
 use denote.Ref.{now}
-use Rattle.reader.specs.Text.{parsed}
-use Rattle.reader.specs.declared.date_time.Parsed.the-variants.{Fields}
+use Rattle.stages.specs.Text.{parsed}
+use Rattle.stages.specs.declared.Parsed.the-variants.{Fields}
 use Rattle.reader.specs.Stamp.{stamped, inRangeError, readText}
-use Rattle.reader.proofs.YearLimit.{year-within, within-limit}
+use Rattle.stages.proofs.YearLimit.{year-within, within-limit}
 use Rattle.reader.proofs.stamp.from_str.Statement.{statement}
 use Rattle.reader.proofs.stamp.from_str.Tie as tie
 

@@ -1,9 +1,9 @@
--- `reader::date_time::with_seconds`.
+-- `stages::with_seconds`.
 use mir.Syntax.{w64}
 use mir.Facts.{toZ-ofZ}
 use borrow.Author.Needs.{needs}
-use Rattle.reader.proofs.date_time.with_seconds.Statement.{statement}
-use Rattle.reader.proofs.date_time.with_seconds.Tie as tie
+use Rattle.stages.proofs.with_seconds.Statement.{statement}
+use Rattle.stages.proofs.with_seconds.Tie as tie
 
 enum-known-seconds : tie.Need-enum-known-seconds
 enum-known-seconds c = search needs

@@ -1,12 +1,12 @@
--- `reader::date_time::skip_sign`.
+-- `stages::skip_sign`.
 use mathlib.Core.Path.{_≡_}
 use mathlib.Core.Bool.{true, _||_}
 use mathlib.Core.Logic.{⊎-elim}
 use borrow.Author.Needs.{needs}
 use Rattle.fields.specs.Numbers.{beginsWith}
-use Rattle.reader.specs.Text.{withoutSign}
-use Rattle.reader.proofs.date_time.skip_sign.Statement.{statement}
-use Rattle.reader.proofs.date_time.skip_sign.Tie as tie
+use Rattle.stages.specs.Text.{withoutSign}
+use Rattle.stages.proofs.skip_sign.Statement.{statement}
+use Rattle.stages.proofs.skip_sign.Tie as tie
 
 signed : (k : tie.Joined1) → let s = k .before .before .before .args .text .now in (beginsWith 43 s || beginsWith 45 s) ≡ true
 signed k =

@@ -1,4 +1,4 @@
--- `reader::date_time::with_sign`.
+-- `stages::with_sign`.
 use native.Mathlib.Omega.{arith}
 use lib.IntN.{pos}
 use mir.Syntax.{w64}
@@ -6,8 +6,8 @@ use mir.Facts.{toZ-pos}
 use borrow.Author.Needs.{needs}
 use Rattle.integers.proofs.Machine.{signed, known}
 use Rattle.integers.proofs.Signed.{neg-law}
-use Rattle.reader.proofs.date_time.with_sign.Statement.{statement}
-use Rattle.reader.proofs.date_time.with_sign.Tie as tie
+use Rattle.stages.proofs.with_sign.Statement.{statement}
+use Rattle.stages.proofs.with_sign.Tie as tie
 
 cast-year : tie.Need-cast-year
 cast-year c = search needs

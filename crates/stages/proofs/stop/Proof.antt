@@ -1,7 +1,7 @@
--- `reader::date_time::stop`.
+-- `stages::stop`.
 use borrow.Author.Needs.{needs}
-use Rattle.reader.proofs.date_time.stop.Statement.{statement}
-use Rattle.reader.proofs.date_time.stop.Tie as tie
+use Rattle.stages.proofs.stop.Statement.{statement}
+use Rattle.stages.proofs.stop.Tie as tie
 
 enum-told : tie.Need-enum-told
 enum-told c = search needs

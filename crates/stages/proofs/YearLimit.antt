@@ -19,10 +19,10 @@ use Rattle.fields.specs.declared.delimited.Field.the-variants as Field
 use Rattle.fields.specs.declared.delimited.Seconds.{Seconds}
 use Rattle.fields.specs.declared.delimited.Seconds.the-variants as Seconds
 use Rattle.fields.proofs.Digits.{number-small}
-use Rattle.reader.specs.declared.date_time.DateTime.{DateTime}
-use Rattle.reader.specs.Text.{onField, field, onSeconds, fromMonth, withSign, fromYear, withoutSign, parsed}
-use Rattle.reader.specs.declared.date_time.Parsed.{Parsed}
-use Rattle.reader.specs.declared.date_time.Parsed.the-variants.{Fields, Refused}
+use Rattle.stages.specs.declared.DateTime.{DateTime}
+use Rattle.stages.specs.Text.{onField, field, onSeconds, fromMonth, withSign, fromYear, withoutSign, parsed}
+use Rattle.stages.specs.declared.Parsed.{Parsed}
+use Rattle.stages.specs.declared.Parsed.the-variants.{Fields, Refused}
 
 -- the size of the year, where there is one
 pub data Within (limit : ℕ) : Parsed → Type 0 where

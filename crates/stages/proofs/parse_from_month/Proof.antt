@@ -1,4 +1,4 @@
--- `reader::date_time::parse_from_month`: each stage reads on behind its field, or stops there.
+-- `stages::parse_from_month`: each stage reads on behind its field, or stops there.
 use mathlib.Core.Path.{_≡_, _∙_}
 use mathlib.Core.List.{List}
 use Prim.Native.Nat.{ℕ}
@@ -7,11 +7,11 @@ use mir.Facts.{toZ-ofZ}
 use mir.Val.{toZ, ofZ}
 use borrow.Author.Needs.{needs}
 use Rattle.fields.specs.declared.delimited.Delimiter.the-variants.{Hyphen, SpaceOrT, Colon}
-use Rattle.reader.specs.Text.{field, fromMonth}
-use Rattle.reader.specs.declared.date_time.Parsed.{Parsed}
-use Rattle.reader.proofs.Stages.{read-on, stopped}
-use Rattle.reader.proofs.date_time.parse_from_month.Statement.{statement}
-use Rattle.reader.proofs.date_time.parse_from_month.Tie as tie
+use Rattle.stages.specs.Text.{field, fromMonth}
+use Rattle.stages.specs.declared.Parsed.{Parsed}
+use Rattle.stages.proofs.Stages.{read-on, stopped}
+use Rattle.stages.proofs.parse_from_month.Statement.{statement}
+use Rattle.stages.proofs.parse_from_month.Tie as tie
 
 abbrev Next : Type 0
 Next = ℕ → List ℕ → Parsed

@@ -1,4 +1,4 @@
--- `reader::date_time::parse_usual`: each field stands in its place.
+-- `usual::parse_usual`: each field stands in its place.
 use mathlib.Core.Path.{_≡_, _∙_}
 use Prim.Native.Nat.{ℕ, _+_, _*_, _≤_}
 use native.Mathlib.Omega.{arith}
@@ -10,12 +10,12 @@ use borrow.Author.Needs.{needs}
 use Rattle.integers.proofs.Machine.{signed, known}
 use Rattle.fields.specs.Fields.{seconds}
 use Rattle.fields.specs.Numbers.{pairAt}
-use Rattle.reader.specs.Usual.{usualShape, fitsByte}
-use Rattle.reader.specs.Text.{onSeconds, parsed}
-use Rattle.reader.specs.declared.date_time.Parsed.the-variants.{Fields}
-use Rattle.reader.proofs.Usual.{two-at, usual-parsed, seconds-last, seconds-more}
-use Rattle.reader.proofs.date_time.parse_usual.Statement.{statement}
-use Rattle.reader.proofs.date_time.parse_usual.Tie as tie
+use Rattle.usual.specs.Usual.{usualShape, fitsByte}
+use Rattle.stages.specs.Text.{onSeconds, parsed}
+use Rattle.stages.specs.declared.Parsed.the-variants.{Fields}
+use Rattle.usual.proofs.Usual.{two-at, usual-parsed, seconds-last, seconds-more}
+use Rattle.usual.proofs.parse_usual.Statement.{statement}
+use Rattle.usual.proofs.parse_usual.Tie as tie
 
 pair-requires : tie.Need-pair-requires
 unfolding usualShape fitsByte

@@ -14,8 +14,8 @@ use Rattle.fields.specs.declared.delimited.Field.{Field}
 use Rattle.fields.specs.declared.delimited.Field.the-variants as Field
 use Rattle.fields.specs.declared.delimited.Seconds.{Seconds}
 use Rattle.fields.specs.declared.delimited.Seconds.the-variants as Seconds
-use Rattle.reader.specs.declared.date_time.Parsed.{Parsed}
-use Rattle.reader.specs.declared.date_time.Parsed.the-variants.{Fields, Refused}
+use Rattle.stages.specs.declared.Parsed.{Parsed}
+use Rattle.stages.specs.declared.Parsed.the-variants.{Fields, Refused}
 
 -- a field's refusal is the text's, and so is a missing delimiter
 abbrev pub onField : Field → (ℕ → Parsed) → Parsed

@@ -14,9 +14,9 @@ use Rattle.fields.specs.declared.delimited.Field.{Field}
 use Rattle.fields.specs.declared.delimited.Field.the-variants as Field
 use Rattle.fields.proofs.Behind.{behind-two}
 use Rattle.fields.proofs.delimited.Field.{the-type}
-use Rattle.reader.specs.Text.{onField, field}
-use Rattle.reader.specs.declared.date_time.Parsed.{Parsed}
-use Rattle.reader.specs.declared.date_time.Parsed.the-variants.{Refused}
+use Rattle.stages.specs.Text.{onField, field}
+use Rattle.stages.specs.declared.Parsed.{Parsed}
+use Rattle.stages.specs.declared.Parsed.the-variants.{Refused}
 
 -- a field that is not read on (the last argument is what the `else` of a `let .. else` is told: the tag is one of the others)
 none : (f : Field) (next : ℕ → Parsed) → OneOf (1 ∷ 2 ∷ []) (tagOf the-type f) → onField f (λ v. Refused MissingField) ≡ onField f next
