@@ -8,8 +8,8 @@ use native.Mathlib.Omega.{arith}
 use lib.Dec.{leb}
 use lib.ListN.{length}
 use borrow.Author.Tests.{le-leb, lt-ltb, ne-eqb, leb-true}
-use Rattle.fields.specs.Numbers.{beginsWith, isDigit, allDigits, decimalAfter, decimal, digitsUpTo, number}
-use Rattle.fields.specs.declared.numbers.Number.the-variants.{Value}
+use Rattle.decimals.specs.Numbers.{beginsWith, isDigit, allDigits, decimalAfter, decimal, digitsUpTo, number}
+use Rattle.decimals.specs.declared.Number.the-variants.{Value}
 use Rattle.seconds.proofs.Checks.{both}
 use Rattle.digits.specs.Digits.{digits}
 use Rattle.digits.proofs.Decimal.{digits-length}

@@ -7,13 +7,13 @@ use native.Mathlib.Omega.{arith}
 use lib.ListN.{length, length-append}
 use lib.Seq.{drop-append-add, take-append-seam, take-all}
 use borrow.Author.Tests.{le-leb, lt-ltb, ne-eqb}
-use Rattle.fields.specs.Numbers.{beginsWith, isDigit, allDigits, decimalAfter}
+use Rattle.decimals.specs.Numbers.{beginsWith, isDigit, allDigits, decimalAfter}
 use Rattle.fields.specs.Fields.{isDelimiter, width, before, delimited, behind, twoDigits, nanoseconds, seconds}
 use Rattle.stages.specs.Text.{field, fromMonth, withSign, fromYear, withoutSign}
-use Rattle.fields.specs.declared.delimited.Delimiter.{Delimiter}
-use Rattle.fields.specs.declared.delimited.Delimiter.the-variants.{Hyphen, SpaceOrT, Colon, Point}
-use Rattle.fields.specs.declared.delimited.Field.the-variants as Field
-use Rattle.fields.specs.declared.delimited.Seconds.the-variants as Seconds
+use Rattle.fields.specs.declared.Delimiter.{Delimiter}
+use Rattle.fields.specs.declared.Delimiter.the-variants.{Hyphen, SpaceOrT, Colon, Point}
+use Rattle.fields.specs.declared.Field.the-variants as Field
+use Rattle.fields.specs.declared.Seconds.the-variants as Seconds
 use Rattle.stages.specs.declared.Parsed.{Parsed}
 use Rattle.seconds.proofs.Checks.{both}
 use Rattle.fields.proofs.Tenths.{good-fraction}

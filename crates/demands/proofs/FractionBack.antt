@@ -8,7 +8,7 @@ use native.Mathlib.Omega.{arith}
 use lib.Dec.{eqb, lit<}
 use lib.ListN.{length}
 use borrow.Author.Tests.{eqb-true}
-use Rattle.fields.specs.Numbers.{isDigit, allDigits}
+use Rattle.decimals.specs.Numbers.{isDigit, allDigits}
 use Rattle.fields.specs.Fields.{nanoseconds}
 use Rattle.seconds.proofs.Checks.{both}
 use Rattle.fields.proofs.Tenths.{weighed, weighed-nanoseconds}

@@ -13,7 +13,7 @@ use Rattle.calendar.specs.Walk.{divides, isLeap, monthRow, monthLength}
 use Rattle.calendar.specs.Closed.{leapYears, yearStart, sumTo, dayOfYear, dayNumber}
 use Rattle.moments.specs.Moments.{secondOfDay, secondsOf}
 use Rattle.counts.specs.Counts.{dateTimeSecs, fromDateTime, exact, timeAt, added}
-use Rattle.fields.specs.Numbers.{beginsWith, isDigit, allDigits, decimalAfter, digitsUpTo, number}
+use Rattle.decimals.specs.Numbers.{beginsWith, isDigit, allDigits, decimalAfter, digitsUpTo, number}
 use Rattle.fields.specs.Fields as Fields
 use Rattle.stages.specs.Text as Text
 use Rattle.reader.specs.Stamp.{readText}

@@ -6,10 +6,10 @@ use Prim.Native.Nat.{ℕ, suc, _^_, _<_, _≤_}
 use native.Mathlib.Omega.{arith}
 use lib.IntN.{ℤ, pos, negsuc, natAbs}
 use borrow.Author.Tests.{le-ltb}
-use Rattle.fields.specs.Numbers.{beginsWith}
+use Rattle.decimals.specs.Numbers.{beginsWith}
 use Rattle.fields.specs.Fields.{isDelimiter}
 use Rattle.stages.specs.Text.{fromMonth, withoutSign, parsed}
-use Rattle.fields.specs.declared.delimited.Delimiter.the-variants.{Hyphen, SpaceOrT, Colon}
+use Rattle.fields.specs.declared.Delimiter.the-variants.{Hyphen, SpaceOrT, Colon}
 use Rattle.stages.specs.declared.DateTime.{DateTime}
 use Rattle.stages.specs.declared.Parsed.the-variants.{Fields}
 use Rattle.printer.specs.declared.Stamp.{Stamp}

@@ -2,7 +2,7 @@
 use crate::lent;
 use crate::verbs::said_of;
 use answers::put_said;
-use fields::bytes::skip;
+use decimals::skip;
 use texts::put;
 use words::rows::row_fits;
 use words::tables::row_of;

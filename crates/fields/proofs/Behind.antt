@@ -8,9 +8,9 @@ use lib.ListN.{drop}
 use borrow.Author.Tests.{eqb-true}
 use Rattle.errors.specs.declared.ParseDateTimeError.the-variants.{InvalidFieldWidth}
 use Rattle.fields.specs.Fields.{unless, width, behind, twoDigits}
-use Rattle.fields.specs.declared.delimited.Delimiter.{Delimiter}
-use Rattle.fields.specs.declared.delimited.Field.{Field}
-use Rattle.fields.specs.declared.delimited.Field.the-variants as Field
+use Rattle.fields.specs.declared.Delimiter.{Delimiter}
+use Rattle.fields.specs.declared.Field.{Field}
+use Rattle.fields.specs.declared.Field.the-variants as Field
 
 got-two : (n : ℕ) (f : Field) {v : ℕ} (b : Bool) → eqb n 2 ≡ b → unless b (Field.Refused InvalidFieldWidth) f ≡ Field.Got v → n ≡ 2
 got-two n f true e h = eqb-true n 2 e

@@ -1,4 +1,3 @@
-pub mod Digits
 pub mod Tenths
 pub mod Widths
 pub mod Pairs

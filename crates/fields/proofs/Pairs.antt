@@ -9,13 +9,13 @@ use lib.Dec.{eqb}
 use lib.ListN.{length, getD}
 use borrow.Author.Tests.{ne-eqb, le-leb, lt-ltb}
 use Rattle.errors.specs.declared.ParseDateTimeError.the-variants.{InvalidFieldWidth}
-use Rattle.fields.specs.Numbers.{beginsWith, allDigits, pairAt, decimalAfter, digitsUpTo, number}
+use Rattle.decimals.specs.Numbers.{beginsWith, allDigits, pairAt, decimalAfter, digitsUpTo, number}
 use Rattle.fields.specs.Fields.{isDelimiter, width, twoDigits}
-use Rattle.fields.specs.declared.numbers.Number.the-variants.{Value}
-use Rattle.fields.specs.declared.delimited.Delimiter.{Delimiter}
-use Rattle.fields.specs.declared.delimited.Delimiter.the-variants.{Hyphen, SpaceOrT, Colon, Point}
-use Rattle.fields.specs.declared.delimited.Field.the-variants.{Got, Last, Refused}
-use Rattle.fields.proofs.Digits.{Digit}
+use Rattle.decimals.specs.declared.Number.the-variants.{Value}
+use Rattle.fields.specs.declared.Delimiter.{Delimiter}
+use Rattle.fields.specs.declared.Delimiter.the-variants.{Hyphen, SpaceOrT, Colon, Point}
+use Rattle.fields.specs.declared.Field.the-variants.{Got, Last, Refused}
+use Rattle.decimals.proofs.Values.{Digit}
 
 -- no digit is a delimiter
 pub other : (d : Delimiter) {x : ℕ} → Digit x → isDelimiter d x ≡ false

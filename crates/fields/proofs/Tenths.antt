@@ -10,10 +10,10 @@ use lib.ListN.{length, take, drop, getD, drop-of-length-le, length-take}
 use lib.Pow.{pow-add}
 use lib.Seq.{drop-cons}
 use borrow.Author.Tests.{lt-ltb}
-use Rattle.fields.specs.Numbers.{allDigits, decimalAfter, decimal}
+use Rattle.decimals.specs.Numbers.{allDigits, decimalAfter, decimal}
 use Rattle.fields.specs.Fields.{nanoseconds, fraction}
 use Rattle.errors.specs.declared.ParseDateTimeError.the-variants.{MissingField, InvalidFieldValue}
-use Rattle.fields.specs.declared.delimited.Seconds.the-variants.{Got, Refused}
+use Rattle.fields.specs.declared.Seconds.the-variants.{Got, Refused}
 
 -- the first digit weighs w
 unfoldable pub weighed : ℕ → List ℕ → ℕ

@@ -9,7 +9,7 @@ use native.Mathlib.Omega.{arith}
 use lib.ListN.{length, drop, getD, drop-of-length-le}
 use lib.Seq.{drop-cons}
 use Rattle.fields.specs.Fields.{isDelimiter, width}
-use Rattle.fields.specs.declared.delimited.Delimiter.{Delimiter}
+use Rattle.fields.specs.declared.Delimiter.{Delimiter}
 
 module _ (d : Delimiter) (s : List ℕ) (i : ℕ) where
   pub width-found : i < length s → isDelimiter d (getD s i 0) ≡ true → i + width d (drop i s) ≡ i

@@ -5,13 +5,13 @@ use Prim.Native.Nat.{ℕ, suc, _+_, _-_, _*_, _^_}
 use lib.Dec.{ltb, eqb}
 use lib.ListN.{length, take, drop}
 use Rattle.errors.specs.declared.ParseDateTimeError.the-variants.{MissingField, InvalidFieldWidth, InvalidFieldValue}
-use Rattle.fields.specs.Numbers.{allDigits, decimal, number, onNumber}
-use Rattle.fields.specs.declared.delimited.Delimiter.{Delimiter}
-use Rattle.fields.specs.declared.delimited.Delimiter.the-variants.{Hyphen, SpaceOrT, Colon, Point}
-use Rattle.fields.specs.declared.delimited.Field.{Field}
-use Rattle.fields.specs.declared.delimited.Field.the-variants as Field
-use Rattle.fields.specs.declared.delimited.Seconds.{Seconds}
-use Rattle.fields.specs.declared.delimited.Seconds.the-variants as Seconds
+use Rattle.decimals.specs.Numbers.{allDigits, decimal, number, onNumber}
+use Rattle.fields.specs.declared.Delimiter.{Delimiter}
+use Rattle.fields.specs.declared.Delimiter.the-variants.{Hyphen, SpaceOrT, Colon, Point}
+use Rattle.fields.specs.declared.Field.{Field}
+use Rattle.fields.specs.declared.Field.the-variants as Field
+use Rattle.fields.specs.declared.Seconds.{Seconds}
+use Rattle.fields.specs.declared.Seconds.the-variants as Seconds
 
 -- what comes next, refused unless the test holds
 abbrev pub unless : {A : Type 0} → Bool → A → A → A

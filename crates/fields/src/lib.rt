@@ -1,4 +1,131 @@
-// The fields of a text: the bytes at its front, decimal numbers, and what stands before a delimiter.
-pub mod bytes; // the front of a text
-pub mod delimited; // a field, up to its delimiter
-pub mod numbers; // the number in a field
+// The fields of a text: what stands before a delimiter.
+use decimals::Number;
+use errors::ParseDateTimeError;
+ghost use mathlib.Core.Path.{_≡_};
+ghost use Prim.Native.Nat.{_≤_};
+ghost use lib.ListN.{length};
+ghost use Rattle.fields.specs.Fields.{isDelimiter, width, twoDigits, fraction, seconds};
+
+pub enum Delimiter {
+    Hyphen,
+    SpaceOrT,
+    Colon,
+    Point,
+}
+
+// Got: its delimiter follows. Last: the text ends behind it.
+pub enum Field {
+    Got(u8),
+    Last(u8),
+    Refused(ParseDateTimeError),
+}
+
+// The seconds and their nanoseconds.
+pub enum Seconds {
+    Got(u8, u32),
+    Refused(ParseDateTimeError),
+}
+
+pub fn is_delimiter(delimiter: Delimiter, byte: u8) -> bool
+    ensures { λ r. ⌜ r ≡ isDelimiter delimiter byte ⌝ }
+{
+    match delimiter {
+        Delimiter::Hyphen => byte == b'-',
+        Delimiter::SpaceOrT => byte == b' ' || byte == b'T' || byte == b't',
+        Delimiter::Colon => byte == b':',
+        Delimiter::Point => byte == b'.',
+    }
+}
+
+// How many bytes stand before the first delimiter.
+pub fn find(s: &[u8], delimiter: Delimiter) -> usize
+    ensures { λ r. ⌜ r ≡ width delimiter (now (s .entry)) ⌝ }
+    ensures { λ r. ⌜ r ≤ length (now (s .entry)) ⌝ }
+{
+    let mut i = 0;
+    while i < s.len() {
+        if is_delimiter(delimiter, s[i]) {
+            return i;
+        }
+        i += 1;
+    }
+    i
+}
+
+// The field by search, for what does not begin with two digits: of two bytes it is a number only by the inner `+`.
+fn pull_two_bytes(s: &[u8], delimiter: Delimiter) -> Field
+    ensures { λ r. ⌜ r ≡ twoDigits delimiter (now (s .entry)) ⌝ }
+{
+    let n = find(s, delimiter);
+    if n != 2 {
+        return Field::Refused(ParseDateTimeError::InvalidFieldWidth);
+    }
+    let Number::Value(v) = decimals::parse_number(&s[..n], 99) else {
+        return Field::Refused(ParseDateTimeError::InvalidFieldValue);
+    };
+    let value = v as u8;
+    if n < s.len() {
+        return Field::Got(value);
+    }
+    Field::Last(value)
+}
+
+// Two digits are no delimiter, so that the byte behind them tells the width, and nothing has to be searched.
+pub fn pull_two_digits(s: &[u8], delimiter: Delimiter) -> Field
+    ensures { λ r. ⌜ r ≡ twoDigits delimiter (now (s .entry)) ⌝ }
+{
+    if s.len() < 2 {
+        return Field::Refused(ParseDateTimeError::InvalidFieldWidth);
+    }
+    if decimals::is_digit(s[0]) && decimals::is_digit(s[1]) {
+        let value = decimals::pair(s, 0);
+        if s.len() == 2 {
+            return Field::Last(value);
+        }
+        if is_delimiter(delimiter, s[2]) {
+            return Field::Got(value);
+        }
+        return Field::Refused(ParseDateTimeError::InvalidFieldWidth);
+    }
+    pull_two_bytes(s, delimiter)
+}
+
+// Nine places, of which those behind the last digit are 0; every digit is validated, those past nine too.
+pub fn pull_fraction(sec: u8, digits: &[u8]) -> Seconds
+    ensures { λ r. ⌜ r ≡ fraction sec (now (digits .entry)) ⌝ }
+{
+    if digits.len() == 0 {
+        return Seconds::Refused(ParseDateTimeError::MissingField);
+    }
+    let mut nano: u32 = 0;
+    let mut i = 0;
+    while i < 9 {
+        nano *= 10;
+        if i < digits.len() {
+            let x = digits[i];
+            if !decimals::is_digit(x) {
+                return Seconds::Refused(ParseDateTimeError::InvalidFieldValue);
+            }
+            nano += (x - b'0') as u32;
+        }
+        i += 1;
+    }
+    while i < digits.len() {
+        if !decimals::is_digit(digits[i]) {
+            return Seconds::Refused(ParseDateTimeError::InvalidFieldValue);
+        }
+        i += 1;
+    }
+    Seconds::Got(sec, nano)
+}
+
+pub fn pull_seconds(s: &[u8]) -> Seconds
+    ensures { λ r. ⌜ r ≡ seconds (now (s .entry)) ⌝ }
+{
+    let f = pull_two_digits(s, Delimiter::Point);
+    match f {
+        Field::Got(sec) => pull_fraction(sec, decimals::skip(s, 3)),
+        Field::Last(sec) => Seconds::Got(sec, 0),
+        Field::Refused(e) => Seconds::Refused(e),
+    }
+}

@@ -1,10 +1,7 @@
 // The whole text: the short way where it fits, else stage by stage.
+use decimals::Number;
 use errors::ParseDateTimeError;
-use fields::bytes;
-use fields::delimited;
-use fields::delimited::Delimiter;
-use fields::numbers;
-use fields::numbers::Number;
+use fields::Delimiter;
 use stages::Parsed;
 use stages::parse_from_month;
 use stages::skip_sign;
@@ -23,18 +20,18 @@ pub fn parse_date_time(text: &[u8], limit: u64) -> Parsed
     if 9999 <= limit && is_usual(text) {
         return parse_usual(text);
     }
-    let negative = bytes::begins_with(text, b'-');
+    let negative = decimals::begins_with(text, b'-');
     let text = skip_sign(text);
-    let n = delimited::find(text, Delimiter::Hyphen);
+    let n = fields::find(text, Delimiter::Hyphen);
     if text.len() <= n {
         return Parsed::Refused(ParseDateTimeError::MissingField);
     }
     if n < 4 {
         return Parsed::Refused(ParseDateTimeError::InvalidFieldWidth);
     }
-    let Number::Value(size) = numbers::parse_number(&text[..n], limit) else {
+    let Number::Value(size) = decimals::parse_number(&text[..n], limit) else {
         return Parsed::Refused(ParseDateTimeError::InvalidFieldValue);
     };
     let year = with_sign(negative, size);
-    parse_from_month(year, bytes::skip(text, n + 1))
+    parse_from_month(year, decimals::skip(text, n + 1))
 }

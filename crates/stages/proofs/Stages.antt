@@ -9,11 +9,11 @@ use types.Run.{OneOf}
 use denote.Enum.Declared.{tagOf}
 use Rattle.errors.specs.declared.ParseDateTimeError.the-variants.{MissingField}
 use Rattle.fields.specs.Fields.{twoDigits}
-use Rattle.fields.specs.declared.delimited.Delimiter.{Delimiter}
-use Rattle.fields.specs.declared.delimited.Field.{Field}
-use Rattle.fields.specs.declared.delimited.Field.the-variants as Field
+use Rattle.fields.specs.declared.Delimiter.{Delimiter}
+use Rattle.fields.specs.declared.Field.{Field}
+use Rattle.fields.specs.declared.Field.the-variants as Field
 use Rattle.fields.proofs.Behind.{behind-two}
-use Rattle.fields.proofs.delimited.Field.{the-type}
+use Rattle.fields.proofs.Field.{the-type}
 use Rattle.stages.specs.Text.{onField, field}
 use Rattle.stages.specs.declared.Parsed.{Parsed}
 use Rattle.stages.specs.declared.Parsed.the-variants.{Refused}

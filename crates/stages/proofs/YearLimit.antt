@@ -8,17 +8,17 @@ use lib.Dec.{leb}
 use lib.IntN.{ℤ, natAbs}
 use Rattle.errors.specs.declared.ParseDateTimeError.{ParseDateTimeError}
 use Rattle.errors.specs.declared.ParseDateTimeError.the-variants.{MissingField, InvalidFieldWidth, InvalidFieldValue}
-use Rattle.fields.specs.Numbers.{beginsWith, number, onNumber}
+use Rattle.decimals.specs.Numbers.{beginsWith, number, onNumber}
 use Rattle.fields.specs.Fields.{unless, width, before, delimited, behind, twoDigits, seconds}
-use Rattle.fields.specs.declared.numbers.Number.{Number}
-use Rattle.fields.specs.declared.numbers.Number.the-variants.{Value, Bad}
-use Rattle.fields.specs.declared.delimited.Delimiter.{Delimiter}
-use Rattle.fields.specs.declared.delimited.Delimiter.the-variants.{Hyphen}
-use Rattle.fields.specs.declared.delimited.Field.{Field}
-use Rattle.fields.specs.declared.delimited.Field.the-variants as Field
-use Rattle.fields.specs.declared.delimited.Seconds.{Seconds}
-use Rattle.fields.specs.declared.delimited.Seconds.the-variants as Seconds
-use Rattle.fields.proofs.Digits.{number-small}
+use Rattle.decimals.specs.declared.Number.{Number}
+use Rattle.decimals.specs.declared.Number.the-variants.{Value, Bad}
+use Rattle.fields.specs.declared.Delimiter.{Delimiter}
+use Rattle.fields.specs.declared.Delimiter.the-variants.{Hyphen}
+use Rattle.fields.specs.declared.Field.{Field}
+use Rattle.fields.specs.declared.Field.the-variants as Field
+use Rattle.fields.specs.declared.Seconds.{Seconds}
+use Rattle.fields.specs.declared.Seconds.the-variants as Seconds
+use Rattle.decimals.proofs.Values.{number-small}
 use Rattle.stages.specs.declared.DateTime.{DateTime}
 use Rattle.stages.specs.Text.{onField, field, onSeconds, fromMonth, withSign, fromYear, withoutSign, parsed}
 use Rattle.stages.specs.declared.Parsed.{Parsed}

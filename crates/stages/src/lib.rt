@@ -1,10 +1,8 @@
 // The stages of a text behind its year, and the year's sign.
 use errors::ParseDateTimeError;
-use fields::bytes;
-use fields::delimited;
-use fields::delimited::Delimiter;
-use fields::delimited::Field;
-use fields::delimited::Seconds;
+use fields::Delimiter;
+use fields::Field;
+use fields::Seconds;
 ghost use mathlib.Core.Path.{_≡_};
 ghost use Prim.Native.Nat.{_^_, _<_};
 ghost use Rattle.errors.specs.declared.ParseDateTimeError.the-variants.{MissingField};
@@ -40,8 +38,8 @@ pub fn with_sign(negative: bool, size: u64) -> i64
 pub fn skip_sign(text: &[u8]) -> &[u8]
     ensures { λ r. ⌜ now r ≡ withoutSign (now (text .entry)) ⌝ }
 {
-    if bytes::begins_with(text, b'+') || bytes::begins_with(text, b'-') {
-        return bytes::skip(text, 1);
+    if decimals::begins_with(text, b'+') || decimals::begins_with(text, b'-') {
+        return decimals::skip(text, 1);
     }
     text
 }
@@ -78,22 +76,22 @@ pub fn with_seconds(year: i64, month: u8, day: u8, hour: u8, min: u8, seconds: S
 pub fn parse_from_month(year: i64, text: &[u8]) -> Parsed
     ensures { λ r. ⌜ r ≡ fromMonth year (now (text .entry)) ⌝ }
 {
-    let f = delimited::pull_two_digits(text, Delimiter::Hyphen);
+    let f = fields::pull_two_digits(text, Delimiter::Hyphen);
     let Field::Got(month) = f else {
         return stop(f);
     };
-    let text = bytes::skip(text, 3);
-    let f = delimited::pull_two_digits(text, Delimiter::SpaceOrT);
+    let text = decimals::skip(text, 3);
+    let f = fields::pull_two_digits(text, Delimiter::SpaceOrT);
     let Field::Got(day) = f else {
         return stop(f);
     };
-    let text = bytes::skip(text, 3);
-    let f = delimited::pull_two_digits(text, Delimiter::Colon);
+    let text = decimals::skip(text, 3);
+    let f = fields::pull_two_digits(text, Delimiter::Colon);
     let Field::Got(hour) = f else {
         return stop(f);
     };
-    let text = bytes::skip(text, 3);
-    let f = delimited::pull_two_digits(text, Delimiter::Colon);
+    let text = decimals::skip(text, 3);
+    let f = fields::pull_two_digits(text, Delimiter::Colon);
     let Field::Got(min) = f else {
         return stop(f);
     };
@@ -103,6 +101,6 @@ pub fn parse_from_month(year: i64, text: &[u8]) -> Parsed
         day,
         hour,
         min,
-        delimited::pull_seconds(bytes::skip(text, 3)),
+        fields::pull_seconds(decimals::skip(text, 3)),
     )
 }

@@ -13,13 +13,13 @@ use lib.ListN.{length, drop, getD, length-drop, List·getD-eq-default}
 use lib.Seq.{drop-cons, drop-drop, getD-drop}
 use borrow.Author.Tests.{ne-eqb, le-leb, lt-ltb}
 use Rattle.calendar.proofs.Table.{below}
-use Rattle.fields.specs.Numbers.{beginsWith, isDigit, allDigits, pairAt, decimalAfter, digitsUpTo, number}
+use Rattle.decimals.specs.Numbers.{beginsWith, isDigit, allDigits, pairAt, decimalAfter, digitsUpTo, number}
 use Rattle.fields.specs.Fields.{isDelimiter, width, twoDigits, fraction, seconds}
-use Rattle.fields.specs.declared.delimited.Delimiter.{Delimiter}
-use Rattle.fields.specs.declared.delimited.Delimiter.the-variants.{Hyphen, SpaceOrT, Colon, Point}
-use Rattle.fields.specs.declared.delimited.Field.the-variants as Field
-use Rattle.fields.specs.declared.delimited.Seconds.the-variants as Seconds
-use Rattle.fields.proofs.Digits.{Digit, is-digit}
+use Rattle.fields.specs.declared.Delimiter.{Delimiter}
+use Rattle.fields.specs.declared.Delimiter.the-variants.{Hyphen, SpaceOrT, Colon, Point}
+use Rattle.fields.specs.declared.Field.the-variants as Field
+use Rattle.fields.specs.declared.Seconds.the-variants as Seconds
+use Rattle.decimals.proofs.Values.{Digit, is-digit}
 use Rattle.fields.proofs.Pairs.{other, pair-last, pair-got}
 use Rattle.fields.proofs.Behind.{behind-two}
 use Rattle.usual.specs.Usual.{usualShape, fitsByte, fits, isUsual}

@@ -4,9 +4,9 @@ use mathlib.Core.List.{List, [], _∷_}
 use Prim.Native.Nat.{ℕ}
 use lib.Dec.{eqb}
 use lib.ListN.{length, getD}
-use Rattle.fields.specs.Numbers.{isDigit}
+use Rattle.decimals.specs.Numbers.{isDigit}
 use Rattle.fields.specs.Fields.{isDelimiter}
-use Rattle.fields.specs.declared.delimited.Delimiter.the-variants.{SpaceOrT, Point}
+use Rattle.fields.specs.declared.Delimiter.the-variants.{SpaceOrT, Point}
 
 -- `0000-00-00 00:00:00`
 unfoldable pub usualShape : List ℕ

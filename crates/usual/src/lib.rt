@@ -1,9 +1,6 @@
 // Texts of the usual shape.
-use fields::bytes;
-use fields::delimited;
-use fields::delimited::Delimiter;
-use fields::delimited::Seconds;
-use fields::numbers;
+use fields::Delimiter;
+use fields::Seconds;
 use stages::Parsed;
 use stages::with_seconds;
 ghost use mathlib.Core.Path.{_≡_};
@@ -18,15 +15,15 @@ fn fits_place(place: usize, byte: u8) -> bool
     ensures { λ r. ⌜ r ≡ fitsByte (getD usualShape place 48) byte ⌝ }
 {
     if place == 4 || place == 7 {
-        return delimited::is_delimiter(Delimiter::Hyphen, byte);
+        return fields::is_delimiter(Delimiter::Hyphen, byte);
     }
     if place == 10 {
-        return delimited::is_delimiter(Delimiter::SpaceOrT, byte);
+        return fields::is_delimiter(Delimiter::SpaceOrT, byte);
     }
     if place == 13 || place == 16 {
-        return delimited::is_delimiter(Delimiter::Colon, byte);
+        return fields::is_delimiter(Delimiter::Colon, byte);
     }
-    numbers::is_digit(byte)
+    decimals::is_digit(byte)
 }
 
 // The compiler unrolls the loop, and each place keeps its own test.
@@ -51,14 +48,14 @@ pub fn parse_usual(text: &[u8]) -> Parsed
     requires { ⌜ isUsual (now text) ≡ true ⌝ }
     ensures { λ r. ⌜ ((limit : ℕ) → 9999 ≤ limit → r ≡ parsed limit (now (text .entry))) ⌝ }
 {
-    let hundreds = numbers::pair(text, 0) as i64;
-    let rest = numbers::pair(text, 2) as i64;
+    let hundreds = decimals::pair(text, 0) as i64;
+    let rest = decimals::pair(text, 2) as i64;
     let year = hundreds * 100 + rest;
-    let month = numbers::pair(text, 5);
-    let day = numbers::pair(text, 8);
-    let hour = numbers::pair(text, 11);
-    let min = numbers::pair(text, 14);
-    let sec = numbers::pair(text, 17);
+    let month = decimals::pair(text, 5);
+    let day = decimals::pair(text, 8);
+    let hour = decimals::pair(text, 11);
+    let min = decimals::pair(text, 14);
+    let sec = decimals::pair(text, 17);
     if text.len() == 19 {
         return with_seconds(year, month, day, hour, min, Seconds::Got(sec, 0));
     }
@@ -68,6 +65,6 @@ pub fn parse_usual(text: &[u8]) -> Parsed
         day,
         hour,
         min,
-        delimited::pull_fraction(sec, bytes::skip(text, 20)),
+        fields::pull_fraction(sec, decimals::skip(text, 20)),
     )
 }

@@ -9,10 +9,10 @@ use lib.Dec.{ltb}
 use lib.IntN.{negsuc}
 use lib.ListN.{length}
 use borrow.Author.Tests.{lt-ltb}
-use Rattle.fields.specs.Numbers.{beginsWith, digitsUpTo}
-use Rattle.fields.specs.declared.numbers.Number.{Number}
-use Rattle.fields.specs.declared.numbers.Number.the-variants.{Value, Bad}
-use Rattle.fields.proofs.Digits.{digits-small}
+use Rattle.decimals.specs.Numbers.{beginsWith, digitsUpTo}
+use Rattle.decimals.specs.declared.Number.{Number}
+use Rattle.decimals.specs.declared.Number.the-variants.{Value, Bad}
+use Rattle.decimals.proofs.Values.{digits-small}
 use Rattle.words.specs.Numbers.{unsigned, below}
 use Rattle.words.specs.declared.numbers.Signed.the-variants as Signed
 

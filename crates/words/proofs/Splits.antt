@@ -9,7 +9,7 @@ use native.Mathlib.Omega.{arith}
 use lib.ListN.{length, drop, length-take, length-drop}
 use lib.Seq.{take-all}
 use Rattle.bytes.specs.Bytes.{indexOf, slice}
-use Rattle.fields.specs.Numbers.{beginsWith}
+use Rattle.decimals.specs.Numbers.{beginsWith}
 use Rattle.words.specs.Words.{wordLength, fieldLength, fieldWord, restAt, wordAt}
 
 -- the first of a byte in all of s

@@ -5,9 +5,9 @@ use Prim.Native.Nat.{ℕ}
 use Prim.Native.String.{String}
 use lib.Dec.{ltb, eqb}
 use lib.ListN.{length, drop}
-use Rattle.fields.specs.Numbers.{beginsWith}
-use Rattle.fields.specs.declared.numbers.Number.{Number}
-use Rattle.fields.specs.declared.numbers.Number.the-variants as Number
+use Rattle.decimals.specs.Numbers.{beginsWith}
+use Rattle.decimals.specs.declared.Number.{Number}
+use Rattle.decimals.specs.declared.Number.the-variants as Number
 use Rattle.texts.specs.Texts.{bytes, alike}
 use Rattle.words.specs.Words.{byWord, fieldLength, fieldWord}
 use Rattle.words.specs.Numbers.{unsigned, signed}

@@ -1,8 +1,8 @@
 // Decimal numbers: digits alone, no needless zero, `-` where the type is signed, within the type.
-use fields::bytes::begins_with;
-use fields::bytes::skip;
-use fields::numbers::Number;
-use fields::numbers::digits;
+use decimals::Number;
+use decimals::begins_with;
+use decimals::digits;
+use decimals::skip;
 ghost use mathlib.Core.Path.{_≡_};
 ghost use Prim.Native.Nat.{_^_, _<_};
 ghost use Rattle.words.specs.Numbers.{unsigned, signed};

@@ -4,7 +4,7 @@ use crate::numbers::TOP;
 use crate::numbers::parse_signed;
 use crate::numbers::parse_unsigned;
 use crate::words::word_at;
-use fields::numbers::Number;
+use decimals::Number;
 ghost use mathlib.Core.Path.{_≡_};
 ghost use Prim.Native.Nat.{_≤_};
 ghost use Rattle.words.specs.Numbers.{wholeAt, naturalAt};

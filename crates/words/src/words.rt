@@ -1,7 +1,7 @@
 // Words between blanks. A field is a blank and the word behind it.
 use bytes::scan::find;
-use fields::bytes::begins_with;
-use fields::bytes::skip;
+use decimals::begins_with;
+use decimals::skip;
 ghost use mathlib.Core.Path.{_≡_};
 ghost use Prim.Native.Nat.{_≤_};
 ghost use lib.ListN.{length};

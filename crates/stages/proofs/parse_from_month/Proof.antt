@@ -6,7 +6,7 @@ use mir.Syntax.{w64}
 use mir.Facts.{toZ-ofZ}
 use mir.Val.{toZ, ofZ}
 use borrow.Author.Needs.{needs}
-use Rattle.fields.specs.declared.delimited.Delimiter.the-variants.{Hyphen, SpaceOrT, Colon}
+use Rattle.fields.specs.declared.Delimiter.the-variants.{Hyphen, SpaceOrT, Colon}
 use Rattle.stages.specs.Text.{field, fromMonth}
 use Rattle.stages.specs.declared.Parsed.{Parsed}
 use Rattle.stages.proofs.Stages.{read-on, stopped}

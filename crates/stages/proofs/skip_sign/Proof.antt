@@ -3,7 +3,7 @@ use mathlib.Core.Path.{_≡_}
 use mathlib.Core.Bool.{true, _||_}
 use mathlib.Core.Logic.{⊎-elim}
 use borrow.Author.Needs.{needs}
-use Rattle.fields.specs.Numbers.{beginsWith}
+use Rattle.decimals.specs.Numbers.{beginsWith}
 use Rattle.stages.specs.Text.{withoutSign}
 use Rattle.stages.proofs.skip_sign.Statement.{statement}
 use Rattle.stages.proofs.skip_sign.Tie as tie

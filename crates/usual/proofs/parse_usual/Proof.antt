@@ -9,7 +9,7 @@ use mir.Val.{toZ, ofZ}
 use borrow.Author.Needs.{needs}
 use Rattle.integers.proofs.Machine.{signed, known}
 use Rattle.fields.specs.Fields.{seconds}
-use Rattle.fields.specs.Numbers.{pairAt}
+use Rattle.decimals.specs.Numbers.{pairAt}
 use Rattle.usual.specs.Usual.{usualShape, fitsByte}
 use Rattle.stages.specs.Text.{onSeconds, parsed}
 use Rattle.stages.specs.declared.Parsed.the-variants.{Fields}

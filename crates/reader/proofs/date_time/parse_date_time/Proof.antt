@@ -10,8 +10,8 @@ use borrow.Author.Tests.{lt-ltb, le-ltb, le-leb, lt-leb}
 use borrow.Author.Needs.{needs}
 use Rattle.integers.proofs.Machine.{known64}
 use Rattle.errors.specs.declared.ParseDateTimeError.the-variants.{InvalidFieldValue}
-use Rattle.fields.specs.Numbers.{onNumber}
-use Rattle.fields.proofs.Digits.{number-small}
+use Rattle.decimals.specs.Numbers.{onNumber}
+use Rattle.decimals.proofs.Values.{number-small}
 use Rattle.stages.specs.Text.{parsed, fromYear, fromMonth, withSign}
 use Rattle.stages.specs.declared.Parsed.the-variants.{Refused}
 use Rattle.reader.proofs.date_time.parse_date_time.Statement.{statement}

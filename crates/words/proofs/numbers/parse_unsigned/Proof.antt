@@ -5,7 +5,7 @@ use mathlib.Core.Logic.{⊎-elim}
 use lib.ListN.{length}
 use borrow.Author.Tests.{le-ltb}
 use borrow.Author.Needs.{needs}
-use Rattle.fields.specs.Numbers.{beginsWith}
+use Rattle.decimals.specs.Numbers.{beginsWith}
 use Rattle.words.proofs.Decimal.{needless, as-read}
 use Rattle.words.proofs.numbers.parse_unsigned.Statement.{statement}
 use Rattle.words.proofs.numbers.parse_unsigned.Tie as tie

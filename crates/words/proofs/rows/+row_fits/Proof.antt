@@ -6,7 +6,7 @@ use lib.ListN.{length, length-drop}
 use borrow.Author.Needs.{needs}
 use borrow.Author.Tests.{not-true, not-false}
 use borrow.Fn.PlainCycle.{Measures, is, falls, and}
-use Rattle.fields.proofs.bytes.skip.Reads as skip
+use Rattle.decimals.proofs.skip.Reads as skip
 use Rattle.words.proofs.Fitting.{fits-none, fits-not, fits-more}
 use Rattle.words.proofs.words.field_length.Reads as field-length
 use Rattle.words.proofs.rows.is_good.Reads as is-good

@@ -4,7 +4,7 @@ use Prim.Native.Nat.{ℕ, _<_}
 use native.Mathlib.Omega.{arith}
 use borrow.Author.Needs.{needs}
 use borrow.Fn.PlainCycle.{Measures, is, falls, and}
-use Rattle.fields.proofs.bytes.skip.Reads as skip
+use Rattle.decimals.proofs.skip.Reads as skip
 use Rattle.words.specs.Words.{restAt}
 use Rattle.words.proofs.Splits.{rest-more}
 use Rattle.words.proofs.words.field_length.Reads as field-length
