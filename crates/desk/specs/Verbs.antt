@@ -12,41 +12,42 @@ use Rattle.texts.specs.Texts.{bytes, alike, natural, integer}
 use Rattle.texts.specs.Hex.{hexText}
 use Rattle.words.specs.Rows.{fits}
 use Rattle.answers.specs.Answers.{line, timeLine, durationLine, orderText, malformed}
-use Rattle.entries.specs.Kinds.{e, i, y, U, u, b, p, x, t}
+use Rattle.entries.specs.Kinds.{epoch, i64, i32, u64, u32, u8, precision, hex, Kinds, end, rest, _▸_, letters, Answer, given}
 
 -- the answer with lent bytes, which stand last as they are then
 abbrev pub lentLine : Outcome ℕ × List ℕ → List ℕ
 lentLine o = line natural (o .0) ++ bytes " " ++ hexText (o .1)
 
--- a verb: its word, the kinds of the words behind it, and the answer to what stands behind it
+-- a verb: its word, the kinds of the words behind it, and the answer to such words
 pub data Row : Type 0 where
-  row : String → String → (List ℕ → List ℕ) → Row
+  row : String → (kinds : Kinds) → Answer kinds → Row
 
 abbrev pub rows : List Row
 rows =
-    row "print" "eiup." (λ s. line (λ text. text) (goodNanos (u 2 s) (gives (timeText (i 1 s) (u 2 s) (e 0 s) (p 3 s)))))
-    ∷ row "line" "eiupUx." (λ s. lentLine (displayed (i 1 s) (u 2 s) (e 0 s) (p 3 s) (x 5 s) (U 4 s)))
-    ∷ row "new" "iu." (λ s. timeLine (newTime (i 0 s) (u 1 s)))
-    ∷ row "date" "eybbbbbu." (λ s. timeLine (fromDateTime (e 0 s) (y 1 s) (b 2 s) (b 3 s) (b 4 s) (b 5 s) (b 6 s) (u 7 s)))
-    ∷ row "unix" "eiui." (λ s. timeLine (fromUnix (e 0 s) (i 1 s) (u 2 s) (i 3 s)))
-    ∷ row "to-unix" "eiui." (λ s. line integer (toUnix (e 0 s) (i 1 s) (u 2 s) (i 3 s)))
-    ∷ row "epoch" "eeiu." (λ s. timeLine (overEpoch (e 0 s) (e 1 s) (i 2 s) (u 3 s)))
-    ∷ row "add" "iuUu." (λ s. timeLine (added (i 0 s) (u 1 s) (U 2 s) (u 3 s)))
-    ∷ row "sub" "iuUu." (λ s. timeLine (taken (i 0 s) (u 1 s) (U 2 s) (u 3 s)))
-    ∷ row "since" "iuiu." (λ s. durationLine (since (i 0 s) (u 1 s) (i 2 s) (u 3 s)))
-    ∷ row "compare" "iuiu." (λ s. line orderText (compared (i 0 s) (u 1 s) (i 2 s) (u 3 s)))
-    ∷ row "read" "et" (λ s. timeLine (readText 2147483647 (e 0 s) (t 1 s)))
-    ∷ row "read-hex" "ex." (λ s. timeLine (readText 2147483647 (e 0 s) (x 1 s)))
+    row "print" (epoch ▸ i64 ▸ u32 ▸ precision ▸ end) (λ epoch secs nanos precision. line (λ text. text) (goodNanos nanos (gives (timeText secs nanos epoch precision))))
+    ∷ row "line" (epoch ▸ i64 ▸ u32 ▸ precision ▸ u64 ▸ hex ▸ end) (λ epoch secs nanos precision at lent. lentLine (displayed secs nanos epoch precision lent at))
+    ∷ row "new" (i64 ▸ u32 ▸ end) (λ secs nanos. timeLine (newTime secs nanos))
+    ∷ row "date" (epoch ▸ i32 ▸ u8 ▸ u8 ▸ u8 ▸ u8 ▸ u8 ▸ u32 ▸ end) (λ epoch year month day hour min sec nanos. timeLine (fromDateTime epoch year month day hour min sec nanos))
+    ∷ row "unix" (epoch ▸ i64 ▸ u32 ▸ i64 ▸ end) (λ epoch unix nanos leap. timeLine (fromUnix epoch unix nanos leap))
+    ∷ row "to-unix" (epoch ▸ i64 ▸ u32 ▸ i64 ▸ end) (λ epoch secs nanos leap. line integer (toUnix epoch secs nanos leap))
+    ∷ row "epoch" (epoch ▸ epoch ▸ i64 ▸ u32 ▸ end) (λ from to secs nanos. timeLine (overEpoch from to secs nanos))
+    ∷ row "add" (i64 ▸ u32 ▸ u64 ▸ u32 ▸ end) (λ secs nanos durationSecs durationNanos. timeLine (added secs nanos durationSecs durationNanos))
+    ∷ row "sub" (i64 ▸ u32 ▸ u64 ▸ u32 ▸ end) (λ secs nanos durationSecs durationNanos. timeLine (taken secs nanos durationSecs durationNanos))
+    ∷ row "since" (i64 ▸ u32 ▸ i64 ▸ u32 ▸ end) (λ secs nanos fromSecs fromNanos. durationLine (since secs nanos fromSecs fromNanos))
+    ∷ row "compare" (i64 ▸ u32 ▸ i64 ▸ u32 ▸ end) (λ secs nanos otherSecs otherNanos. line orderText (compared secs nanos otherSecs otherNanos))
+    ∷ row "read" (epoch ▸ rest) (λ epoch text. timeLine (readText 2147483647 epoch text))
+    ∷ row "read-hex" (epoch ▸ hex ▸ end) (λ epoch text. timeLine (readText 2147483647 epoch text))
     ∷ []
 
+-- what a row answers to what stands behind its verb
 abbrev pub answerBy : Row → List ℕ → List ℕ
-answerBy (row verb kinds answer) s = answer s
+answerBy (row verb kinds answer) s = given kinds answer 0 s
 
 -- what the verb of a number answers
 unfoldable pub answerOf : ℕ → List ℕ → List ℕ
-answerOf k s = answerBy (getD rows k (row "" "" (λ s. malformed))) s
+answerOf k s = answerBy (getD rows k (row "" end malformed)) s
 
 -- what is answered to a word and what stands behind it
 abbrev pub byVerb : List ℕ → List ℕ → List Row → List ℕ
 byVerb word s [] = malformed
-byVerb word s (row verb kinds answer ∷ rows) = cond (alike word (bytes verb)) (cond (fits (bytes kinds) s) (answer s) malformed) (byVerb word s rows)
+byVerb word s (row verb kinds answer ∷ rows) = cond (alike word (bytes verb)) (cond (fits (letters kinds) s) (given kinds answer 0 s) malformed) (byVerb word s rows)

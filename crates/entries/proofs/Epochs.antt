@@ -10,7 +10,7 @@ use Rattle.words.specs.Words.{byWord, wordLength, fieldLength, fieldWord, restA
 use Rattle.words.specs.Numbers.{wholeAt}
 use Rattle.words.specs.Tables.{epochRow}
 use Rattle.words.proofs.ByRow.{byRow, by-row}
-use Rattle.entries.specs.Kinds.{epochs, e as epochAt}
+use Rattle.entries.specs.Kinds.{epochs, epochAt}
 
 unfoldable pub epochValues : List ℤ
 epochValues = map (λ row. row .1) epochs

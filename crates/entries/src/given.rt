@@ -12,7 +12,7 @@ use words::words::word_at;
 ghost use mathlib.Core.Path.{_≡_};
 ghost use Prim.Native.Nat.{_+_, _≤_};
 ghost use Rattle.words.specs.Numbers.{wholeAt, naturalAt};
-ghost use Rattle.entries.specs.Kinds.{e as epochAt, p as precisionAt};
+ghost use Rattle.entries.specs.Kinds.{epochAt, precisionAt};
 
 pub fn epoch_word(s: &[u8], i: usize) -> Epoch
     ensures { λ r. ⌜ r .0 ≡ epochAt i (now (s .entry)) ⌝ }

@@ -1,5 +1,4 @@
 // The words of a line: what stands between blanks, and what it says.
-
 pub mod numbers; // decimal numbers
 pub mod rows; // rows of kinds
 pub mod tables; // names, and what stands for each

@@ -1,6 +1,6 @@
 -- `entries::given::precision_at`.
 use borrow.Author.Needs.{needs}
-use Rattle.entries.specs.Kinds.{p as precisionAt}
+use Rattle.entries.specs.Kinds.{precisionAt}
 use Rattle.entries.proofs.given.precision_at.Statement.{statement}
 use Rattle.entries.proofs.given.precision_at.Tie as tie
 
