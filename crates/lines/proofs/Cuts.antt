@@ -1,44 +1,17 @@
--- An input cut behind its first line, or within it.
+-- The answers to an input cut behind its first line, or within it.
 use mathlib.Core.Path.{_≡_, refl}
-use mathlib.Core.Bool.{Bool, true, false, not}
+use mathlib.Core.Bool.{Bool, true, false}
 use mathlib.Core.List.{List, [], _∷_, _++_}
-use Prim.Native.Nat.{ℕ, suc, _+_, _<_, _≤_, compare·zero-suc, compare·suc-suc}
+use Prim.Native.Nat.{ℕ, _<_, compare·zero-suc, compare·suc-suc}
 use native.Mathlib.Nat.{suc-add}
 use native.Mathlib.Omega.{arith}
-use mathlib.Core.Logic.{_⊎_, inl, inr}
 use lib.Dec.{eqb}
-use lib.ListN.{length, take, drop}
-use mir.Val.{boolByte}
+use lib.ListN.{length, drop}
 use Rattle.bytes.specs.Bytes.{indexOf, indexAfter}
 use Rattle.desk.specs.Answers.{answerText}
-use Rattle.lines.specs.Lines.{lines, inFirst, others, answersTo, answers}
-
--- the first line
-abbrev pub first : List (List ℕ) → List ℕ
-first [] = []
-first (line ∷ rest) = line
-
--- no LF ends the first line of s
-abbrev pub goesOn : List ℕ → Bool
-goesOn s = eqb (indexOf 10 s) (length s)
-
--- the bytes of the first line, with its LF
-abbrev pub used : List ℕ → ℕ
-used s = indexOf 10 s + boolByte (not (goesOn s))
-
-in-first : (x : ℕ) (ls : List (List ℕ)) → inFirst x ls ≡ (x ∷ first ls) ∷ others ls
-in-first x [] = refl
-in-first x (line ∷ rest) = refl
-
--- one more byte before the first LF
-module _ (x : ℕ) (s : List ℕ) (e : eqb x 10 ≡ false) where
-  lines-more : lines (x ∷ s) ≡ (x ∷ first (lines s)) ∷ others (lines s)
-  unfolding lines
-  lines-more = rw (e, in-first)
-
-  index-more : indexOf 10 (x ∷ s) ≡ suc (indexOf 10 s)
-  unfolding indexOf indexAfter
-  index-more = rw e
+use Rattle.pending.specs.Pending.{lines}
+use Rattle.pending.proofs.Cuts.{first, goesOn, used, lines-more, index-more}
+use Rattle.lines.specs.Lines.{answersTo, answers}
 
 module _ (t : List ℕ) where
   -- passing over the first line
@@ -51,31 +24,6 @@ module _ (t : List ℕ) where
           → answers true (x ∷ (s ++ t)) ≡ answers (goesOn (x ∷ s)) (drop (used (x ∷ s)) (x ∷ s) ++ t)
       at true e k = rw (e, compare·zero-suc)
       at false e k = rw (lines-more x (s ++ t) e, index-more x s e, compare·suc-suc, suc-add) k
-
-  -- the first line, where an LF ends it or nothing follows
-  pub first-line : (s : List ℕ) → (goesOn s ≡ false) ⊎ (t ≡ []) → first (lines (s ++ t)) ≡ take (indexOf 10 s) s
-  unfolding lines indexOf indexAfter
-  first-line [] (inl h) = let z : _≡_ {A = ℕ} 0 1 = cc in absurd (omega arith)
-  first-line [] (inr h) = rw h
-  first-line (x ∷ s) h = at (eqb x 10) refl h (first-line s)
-    where
-      at : (b : Bool) → eqb x 10 ≡ b → (goesOn (x ∷ s) ≡ false) ⊎ (t ≡ [])
-          → ((goesOn s ≡ false) ⊎ (t ≡ []) → first (lines (s ++ t)) ≡ take (indexOf 10 s) s)
-          → first (lines (x ∷ (s ++ t))) ≡ take (indexOf 10 (x ∷ s)) (x ∷ s)
-      at true e h k = rw e
-      at false e (inl h) k = rw (lines-more x (s ++ t) e, index-more x s e, k (inl (rw (index-more x s e, compare·suc-suc) at h)))
-      at false e (inr h) k = rw (lines-more x (s ++ t) e, index-more x s e, k (inr h))
-
-  -- it has all bytes before the first LF
-  pub first-long : (s : List ℕ) → indexOf 10 s ≤ length (first (lines (s ++ t)))
-  unfolding lines indexOf indexAfter
-  first-long [] = omega arith
-  first-long (x ∷ s) = at (eqb x 10) refl (first-long s)
-    where
-      at : (b : Bool) → eqb x 10 ≡ b → indexOf 10 s ≤ length (first (lines (s ++ t)))
-          → indexOf 10 (x ∷ s) ≤ length (first (lines (x ∷ (s ++ t))))
-      at true e k = rw e (omega arith)
-      at false e k = rw (lines-more x (s ++ t) e, index-more x s e) (omega arith)
 
 pub answers-first : (s : List ℕ) → 0 < length s → answers false s ≡ answerText (first (lines s)) ++ (10 ∷ answers true s)
 unfolding answers lines answersTo

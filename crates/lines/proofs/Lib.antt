@@ -1,4 +1,3 @@
 pub mod Cuts
 pub mod Turns
-pub mod Moves
 pub mod Pieces

@@ -4,7 +4,8 @@ use mathlib.Core.Bool.{Bool, true, false}
 use mathlib.Core.List.{List, [], _∷_, _++_, append-assoc}
 use Prim.Native.Nat.{ℕ}
 use lib.ListN.{take, drop}
-use Rattle.lines.specs.Lines.{lines, answersTo, answers, Done}
+use Rattle.pending.specs.Pending.{lines}
+use Rattle.lines.specs.Lines.{answersTo, answers, Done}
 use Rattle.lines.specs.declared.Answered.{Answered}
 
 -- the pieces, one behind the other

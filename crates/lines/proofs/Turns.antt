@@ -1,28 +1,23 @@
 -- The turns over the bytes of an input: nothing done, a line passed over, a line answered, and one turn after another.
 use mathlib.Core.Path.{_≡_, refl, sym, ap, _∙_}
-use mathlib.Core.Bool.{Bool, true, false, cond, not, or-true}
+use mathlib.Core.Bool.{Bool, true, false, cond, or-true}
 use mathlib.Core.List.{List, [], _∷_, _++_, append-nil, append-assoc}
 use mathlib.Core.Logic.{_⊎_, inl, inr, ⊎-elim}
-use Prim.Native.Nat.{ℕ, suc, _+_, _-_, _<_, _≤_, min}
+use Prim.Native.Nat.{ℕ, _+_, _-_, _<_, _≤_, min}
 use native.Mathlib.Omega.{arith}
-use native.Mathlib.Nat.{zero-add}
-use lib.Dec.{eqb, ltb}
+use lib.Dec.{ltb}
 use lib.ListN.{length, take, drop, length-take, length-drop, length-append, drop-of-length-le}
 use lib.Seq.{length-take-le, take-all, take-add, take-at, drop-at, drop-drop, take-append-seam, drop-append-seam}
 use borrow.Rule.Slice.PartMut.{midOf, putMid, same-len-mid}
-use borrow.Author.Tests.{le-ltb, ltb-true, ltb-false, eqb-true, eqb-false}
-use mir.Val.{boolByte}
-use Rattle.bytes.specs.Bytes.{indexOf, indexAfter, slice}
+use borrow.Author.Tests.{le-ltb, ltb-true, ltb-false, eqb-true}
+use Rattle.bytes.specs.Bytes.{indexOf}
 use Rattle.desk.specs.Answers.{answerText, answered}
 use Rattle.desk.proofs.Answered.{answered-front, answered-none, answer-too-long, answered-fits}
-use Rattle.lines.specs.Lines.{lines, input, ready, Done, Turn}
+use Rattle.pending.specs.Pending.{lines, input, ready}
+use Rattle.pending.proofs.Cuts.{first, goesOn, used, first-line, first-long, ready-some, index-le, used-some}
+use Rattle.lines.specs.Lines.{Done, Turn}
 use Rattle.lines.specs.declared.Answered.{Answered}
-use Rattle.lines.proofs.Cuts.{first, goesOn, used, pass, first-line, first-long, answers-first}
-
--- what `find` found
-pub found : (s : List ℕ) {end : ℕ} → end ≡ 0 + indexOf 10 (slice 0 (length s) s) → end ≡ indexOf 10 s
-unfolding slice
-found s e = e ∙ rw (zero-add, take-all (length s) s (omega arith))
+use Rattle.lines.proofs.Cuts.{pass, answers-first}
 
 module _ (s : List ℕ) (within ended : Bool) (out : List ℕ) where
   pub done-nothing : Done s within ended out out (record { used = 0; written = 0; within = within })
@@ -35,31 +30,6 @@ module _ (s : List ℕ) (within ended : Bool) (out : List ℕ) where
   -- no line can be answered
   pub turn-waiting : ready ended s ≡ false → Turn s within ended out out (record { used = 0; written = 0; within = within })
   turn-waiting h = turn-left (λ e _. let z : _≡_ {A = ℕ} 0 1 = cc in omega arith)
-
--- a line that can be answered has a byte
-pub ready-some : (ended : Bool) (s : List ℕ) → ready ended s ≡ true → 0 < length s
-unfolding ready indexOf
-ready-some true [] e = let z : _≡_ {A = ℕ} 0 1 = cc in omega arith
-ready-some false [] e = let z : _≡_ {A = ℕ} 0 1 = cc in omega arith
-ready-some ended (x ∷ s) e = omega arith
-
-index-le : (s : List ℕ) → indexOf 10 s ≤ length s
-unfolding indexOf indexAfter
-index-le [] = omega arith
-index-le (x ∷ s) = at (eqb x 10) (index-le s)
-  where
-    at : (b : Bool) → indexOf 10 s ≤ length s → indexAfter b (indexOf 10 s) ≤ suc (length s)
-    at true h = omega arith
-    at false h = omega arith
-
--- of bytes that are there, some are used, and no more
-pub used-some : (s : List ℕ) → (used s ≤ length s) × (0 < length s → 0 < used s)
-used-some s = at (goesOn s) refl (index-le s)
-  where
-    at : (b : Bool) → goesOn s ≡ b → indexOf 10 s ≤ length s
-        → (indexOf 10 s + boolByte (not b) ≤ length s) × (0 < length s → 0 < indexOf 10 s + boolByte (not b))
-    at true e h = let k : indexOf 10 s ≡ length s = eqb-true _ _ e in (omega arith, λ g. omega arith)
-    at false e h = let k : indexOf 10 s ≡ length s → ⊥ = eqb-false _ _ e in (omega arith, λ g. omega arith)
 
 module _ (s : List ℕ) (ended : Bool) (out : List ℕ) where
   pub turn-passed : Turn s true ended out out (record { used = used s; written = 0; within = goesOn s })

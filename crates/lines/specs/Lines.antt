@@ -1,45 +1,22 @@
--- The lines of an input, and what is answered to them. An input is the list of its bytes; LF is 10.
+-- What is answered to the lines of an input.
 use mathlib.Core.Path.{_≡_}
-use mathlib.Core.Bool.{Bool, true, cond, _&&_, _||_}
+use mathlib.Core.Bool.{Bool, true, cond}
 use mathlib.Core.List.{List, [], _∷_, _++_}
-use Prim.Native.Nat.{ℕ, _+_, _-_, _<_, _≤_, min}
-use lib.Dec.{eqb, ltb}
+use Prim.Native.Nat.{ℕ, _+_, _<_, _≤_, min}
 use lib.ListN.{length, take, drop}
 use Rattle.bytes.specs.Bytes.{indexOf}
+use Rattle.pending.specs.Pending.{lines, others, input, ready}
 use Rattle.desk.specs.Answers.{answerText}
 use Rattle.lines.specs.declared.Answered.{Answered}
-
--- a byte in front of the first line
-abbrev pub inFirst : ℕ → List (List ℕ) → List (List ℕ)
-inFirst x [] = (x ∷ []) ∷ []
-inFirst x (line ∷ others) = (x ∷ line) ∷ others
-
--- a line ends in LF or with the input
-unfoldable pub lines : List ℕ → List (List ℕ)
-lines [] = []
-lines (x ∷ s) = cond (eqb x 10) ([] ∷ lines s) (inFirst x (lines s))
 
 -- the answer to each line, and its LF
 unfoldable pub answersTo : List (List ℕ) → List ℕ
 answersTo [] = []
 answersTo (line ∷ others) = answerText line ++ (10 ∷ answersTo others)
 
--- all lines but the first
-abbrev pub others : List (List ℕ) → List (List ℕ)
-others [] = []
-others (line ∷ rest) = rest
-
 -- the answers to an input; `within`: to one that starts within a line that is answered already
 unfoldable pub answers : Bool → List ℕ → List ℕ
 answers within s = answersTo (cond within (others (lines s)) (lines s))
-
--- an input of which the bytes s are there and others come later, or none where it has ended
-abbrev pub input : Bool → List ℕ → List ℕ → List ℕ
-input ended s later = s ++ cond ended [] later
-
--- a line of s can be answered: it has its LF, or more bytes than a request may have, or ends with the input
-unfoldable pub ready : Bool → List ℕ → Bool
-ready ended s = ltb (indexOf 10 s) (length s) || (ltb 65535 (length s) || (ended && ltb 0 (length s)))
 
 -- r.used of the bytes s are done with, and r.written bytes of out hold answers
 pub record Done (s : List ℕ) (within ended : Bool) (out out′ : List ℕ) (r : Answered) : Type 0 where
@@ -55,7 +32,3 @@ pub record Done (s : List ℕ) (within ended : Bool) (out out′ : List ℕ) (r 
 pub record Turn (s : List ℕ) (within ended : Bool) (out out′ : List ℕ) (r : Answered) : Type 0 where
   pub done : Done s within ended out out′ r
   pub progress : ready ended s ≡ true → min (indexOf 10 s) 65536 + 128 ≤ length out → 0 < r .used
-
--- how many bytes stand from a place on, and s with these at the front
-unfoldable pub movedToFront : List ℕ → ℕ → ℕ × List ℕ
-movedToFront s from = (length s - from, drop from s ++ drop (length s - from) s)

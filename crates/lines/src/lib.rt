@@ -1,9 +1,8 @@
 // The lines of an input that comes in pieces, and their answers.
 use bytes::scan::find;
 use desk::answer;
-ghost use mathlib.Core.Path.{_≡_};
-ghost use Rattle.lines.specs.Lines.{Turn, ready, movedToFront};
-ghost use Rattle.bytes.specs.Bytes.{indexOf};
+use pending::is_ready;
+ghost use Rattle.lines.specs.Lines.{Turn};
 
 // How many bytes of the input are done with, how many bytes of answers were written, and whether the line that goes on
 // behind the bytes used is answered already.
@@ -11,20 +10,6 @@ pub struct Answered {
     pub used: usize,
     pub written: usize,
     pub within: bool,
-}
-
-// Whether the first line, which ends at the place `end`, can be answered.
-fn is_ready(s: &[u8], end: usize, ended: bool) -> bool
-    requires { ⌜ end ≡ indexOf 10 (now s) ⌝ }
-    ensures { λ r. ⌜ r ≡ ready ended (now (s .entry)) ⌝ }
-{
-    if end < s.len() {
-        return true;
-    }
-    if 65535 < s.len() {
-        return true;
-    }
-    ended && 0 < s.len()
 }
 
 // One line. Of a line that is too long for a request, one byte more than a request has is enough to say so.
@@ -80,18 +65,4 @@ pub fn answer_lines(s: &[u8], within: bool, ended: bool, out: &mut [u8]) -> Answ
         written,
         within,
     }
-}
-
-// The bytes from a place on, moved to the front, and how many they are. Those behind them are as they were.
-pub fn move_to_front(s: &mut [u8], from: usize) -> usize
-    ensures { λ r. ⌜ (r, now (s .exit)) ≡ movedToFront (now (s .entry)) from ⌝ }
-{
-    let mut kept = 0;
-    let mut i = from;
-    while i < s.len() {
-        s[kept] = s[i];
-        kept += 1;
-        i += 1;
-    }
-    kept
 }

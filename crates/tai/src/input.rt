@@ -2,7 +2,7 @@
 use crate::write;
 use libc::STDIN_FILENO;
 use lines::answer_lines;
-use lines::move_to_front;
+use pending::move_to_front;
 ghost use Prim.Native.Nat.{_+_, _≤_, _<_};
 ghost use lib.ListN.{length};
 

@@ -4,7 +4,8 @@ use mathlib.Core.Logic.{inl, inr, ⊎-elim}
 use native.Mathlib.Omega.{arith}
 use lib.ListN.{length, length-take}
 use borrow.Author.Needs.{needs}
-use Rattle.lines.proofs.Turns.{found, used-some, turn-waiting, turn-passed, turn-full, turn-answered}
+use Rattle.pending.proofs.Cuts.{found, used-some}
+use Rattle.lines.proofs.Turns.{turn-waiting, turn-passed, turn-full, turn-answered}
 use Rattle.lines.proofs.answer_line.Statement.{statement}
 use Rattle.lines.proofs.answer_line.Tie as tie
 

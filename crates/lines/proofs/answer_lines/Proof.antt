@@ -4,7 +4,8 @@ use Prim.Native.Nat.{_-_}
 use native.Mathlib.Omega.{arith}
 use lib.ListN.{length}
 use Rattle.lines.specs.Lines.{Done}
-use Rattle.lines.proofs.Turns.{ready-some, done-nothing, done-again, long-again, turn-again}
+use Rattle.pending.proofs.Cuts.{ready-some}
+use Rattle.lines.proofs.Turns.{done-nothing, done-again, long-again, turn-again}
 use Rattle.lines.proofs.answer_lines.Statement.{statement}
 use Rattle.lines.proofs.answer_lines.Tie as tie
 

@@ -1,0 +1,98 @@
+-- An input cut behind its first line, or within it.
+use mathlib.Core.Path.{_≡_, refl, _∙_}
+use mathlib.Core.Bool.{Bool, true, false, not}
+use mathlib.Core.List.{List, [], _∷_, _++_}
+use Prim.Native.Nat.{ℕ, suc, _+_, _<_, _≤_, compare·suc-suc}
+use native.Mathlib.Nat.{zero-add}
+use native.Mathlib.Omega.{arith}
+use mathlib.Core.Logic.{_⊎_, inl, inr}
+use lib.Dec.{eqb}
+use lib.ListN.{length, take}
+use lib.Seq.{take-all}
+use borrow.Author.Tests.{eqb-true, eqb-false}
+use mir.Val.{boolByte}
+use Rattle.bytes.specs.Bytes.{indexOf, indexAfter, slice}
+use Rattle.pending.specs.Pending.{lines, inFirst, others, ready}
+
+-- the first line
+abbrev pub first : List (List ℕ) → List ℕ
+first [] = []
+first (line ∷ rest) = line
+
+-- no LF ends the first line of s
+abbrev pub goesOn : List ℕ → Bool
+goesOn s = eqb (indexOf 10 s) (length s)
+
+-- the bytes of the first line, with its LF
+abbrev pub used : List ℕ → ℕ
+used s = indexOf 10 s + boolByte (not (goesOn s))
+
+in-first : (x : ℕ) (ls : List (List ℕ)) → inFirst x ls ≡ (x ∷ first ls) ∷ others ls
+in-first x [] = refl
+in-first x (line ∷ rest) = refl
+
+-- one more byte before the first LF
+module _ (x : ℕ) (s : List ℕ) (e : eqb x 10 ≡ false) where
+  pub lines-more : lines (x ∷ s) ≡ (x ∷ first (lines s)) ∷ others (lines s)
+  unfolding lines
+  lines-more = rw (e, in-first)
+
+  pub index-more : indexOf 10 (x ∷ s) ≡ suc (indexOf 10 s)
+  unfolding indexOf indexAfter
+  index-more = rw e
+
+module _ (t : List ℕ) where
+  -- the first line, where an LF ends it or nothing follows
+  pub first-line : (s : List ℕ) → (goesOn s ≡ false) ⊎ (t ≡ []) → first (lines (s ++ t)) ≡ take (indexOf 10 s) s
+  unfolding lines indexOf indexAfter
+  first-line [] (inl h) = let z : _≡_ {A = ℕ} 0 1 = cc in absurd (omega arith)
+  first-line [] (inr h) = rw h
+  first-line (x ∷ s) h = at (eqb x 10) refl h (first-line s)
+    where
+      at : (b : Bool) → eqb x 10 ≡ b → (goesOn (x ∷ s) ≡ false) ⊎ (t ≡ [])
+          → ((goesOn s ≡ false) ⊎ (t ≡ []) → first (lines (s ++ t)) ≡ take (indexOf 10 s) s)
+          → first (lines (x ∷ (s ++ t))) ≡ take (indexOf 10 (x ∷ s)) (x ∷ s)
+      at true e h k = rw e
+      at false e (inl h) k = rw (lines-more x (s ++ t) e, index-more x s e, k (inl (rw (index-more x s e, compare·suc-suc) at h)))
+      at false e (inr h) k = rw (lines-more x (s ++ t) e, index-more x s e, k (inr h))
+
+  -- it has all bytes before the first LF
+  pub first-long : (s : List ℕ) → indexOf 10 s ≤ length (first (lines (s ++ t)))
+  unfolding lines indexOf indexAfter
+  first-long [] = omega arith
+  first-long (x ∷ s) = at (eqb x 10) refl (first-long s)
+    where
+      at : (b : Bool) → eqb x 10 ≡ b → indexOf 10 s ≤ length (first (lines (s ++ t)))
+          → indexOf 10 (x ∷ s) ≤ length (first (lines (x ∷ (s ++ t))))
+      at true e k = rw e (omega arith)
+      at false e k = rw (lines-more x (s ++ t) e, index-more x s e) (omega arith)
+
+-- what `find` found
+pub found : (s : List ℕ) {end : ℕ} → end ≡ 0 + indexOf 10 (slice 0 (length s) s) → end ≡ indexOf 10 s
+unfolding slice
+found s e = e ∙ rw (zero-add, take-all (length s) s (omega arith))
+
+-- a line that can be answered has a byte
+pub ready-some : (ended : Bool) (s : List ℕ) → ready ended s ≡ true → 0 < length s
+unfolding ready indexOf
+ready-some true [] e = let z : _≡_ {A = ℕ} 0 1 = cc in omega arith
+ready-some false [] e = let z : _≡_ {A = ℕ} 0 1 = cc in omega arith
+ready-some ended (x ∷ s) e = omega arith
+
+pub index-le : (s : List ℕ) → indexOf 10 s ≤ length s
+unfolding indexOf indexAfter
+index-le [] = omega arith
+index-le (x ∷ s) = at (eqb x 10) (index-le s)
+  where
+    at : (b : Bool) → indexOf 10 s ≤ length s → indexAfter b (indexOf 10 s) ≤ suc (length s)
+    at true h = omega arith
+    at false h = omega arith
+
+-- of bytes that are there, some are used, and no more
+pub used-some : (s : List ℕ) → (used s ≤ length s) × (0 < length s → 0 < used s)
+used-some s = at (goesOn s) refl (index-le s)
+  where
+    at : (b : Bool) → goesOn s ≡ b → indexOf 10 s ≤ length s
+        → (indexOf 10 s + boolByte (not b) ≤ length s) × (0 < length s → 0 < indexOf 10 s + boolByte (not b))
+    at true e h = let k : indexOf 10 s ≡ length s = eqb-true _ _ e in (omega arith, λ g. omega arith)
+    at false e h = let k : indexOf 10 s ≡ length s → ⊥ = eqb-false _ _ e in (omega arith, λ g. omega arith)
