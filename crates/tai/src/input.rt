@@ -1,22 +1,10 @@
 // Standard input, one read after the other.
-use crate::write;
-use libc::STDIN_FILENO;
 use lines::answer_lines;
 use pending::move_to_front;
-ghost use Prim.Native.Nat.{_+_, _≤_, _<_};
+use streams::read_behind;
+use streams::write;
+ghost use Prim.Native.Nat.{_≤_};
 ghost use lib.ListN.{length};
-
-// One read, behind the bytes kept. There is room for a byte, so that none is the input's end, or an error, which is told.
-fn read_behind(input: &mut [u8], kept: usize) -> usize
-    requires { ⌜ kept < length (now input) ⌝ }
-    ensures { λ r. ⌜ kept + r ≤ length (now (input .exit)) ⌝ }
-{
-    let got = libc::read(STDIN_FILENO, &mut input[kept..]);
-    if got < 0 {
-        os::fail(b"tai: standard input");
-    }
-    io::count(got, &input[kept..])
-}
 
 // The first `end` bytes of the input are there and not answered yet. A proved loop has to end, and nothing says that the
 // input does: no run uses up the count of turns.

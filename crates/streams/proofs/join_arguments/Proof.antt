@@ -1,12 +1,12 @@
--- `tai::join_arguments`: each argument lies within the request.
+-- `streams::join_arguments`: each argument lies within the request.
 use mathlib.Core.Path.{_≡_, _∙_, refl}
 use Prim.Native.Nat.{_+_, _-_, _≤_}
 use native.Mathlib.Omega.{arith}
 use lib.ListN.{length, length-set}
 use borrow.Rule.Slice.PartMut.{mid-len, putMid, same-len-mid}
 use borrow.Author.Needs.{needs}
-use Rattle.tai.proofs.join_arguments.Statement.{statement}
-use Rattle.tai.proofs.join_arguments.Tie as tie
+use Rattle.streams.proofs.join_arguments.Statement.{statement}
+use Rattle.streams.proofs.join_arguments.Tie as tie
 
 abbrev Inv-loop : tie.InvT-loop
 Inv-loop request₀ count at₀ i₀ request at i = (at ≤ length request) × (length request ≡ length request₀)

@@ -1,9 +1,9 @@
--- `tai::write`: the bytes are there.
+-- `streams::write`: the bytes are there.
 use native.Mathlib.Omega.{arith}
 use lib.ListN.{length-take}
 use borrow.Author.Needs.{needs}
-use Rattle.tai.proofs.write.Statement.{statement}
-use Rattle.tai.proofs.write.Tie as tie
+use Rattle.streams.proofs.write.Statement.{statement}
+use Rattle.streams.proofs.write.Tie as tie
 
 slice-aggregate-write-all : tie.Need-slice-aggregate-write-all
 slice-aggregate-write-all c = rw length-take (omega arith)
