@@ -1,17 +1,15 @@
 -- An input cut behind its first line, or within it.
-use mathlib.Core.Path.{_≡_, refl, _∙_}
+use mathlib.Core.Path.{_≡_, refl}
 use mathlib.Core.Bool.{Bool, true, false, not}
 use mathlib.Core.List.{List, [], _∷_, _++_}
 use Prim.Native.Nat.{ℕ, suc, _+_, _<_, _≤_, compare·suc-suc}
-use native.Mathlib.Nat.{zero-add}
 use native.Mathlib.Omega.{arith}
 use mathlib.Core.Logic.{_⊎_, inl, inr}
 use lib.Dec.{eqb}
 use lib.ListN.{length, take}
-use lib.Seq.{take-all}
 use borrow.Author.Tests.{eqb-true, eqb-false}
 use mir.Val.{boolByte}
-use Rattle.bytes.specs.Bytes.{indexOf, indexAfter, slice}
+use Rattle.bytes.specs.Bytes.{indexOf, indexAfter}
 use Rattle.pending.specs.Pending.{lines, inFirst, others, ready}
 
 -- the first line
@@ -66,11 +64,6 @@ module _ (t : List ℕ) where
           → indexOf 10 (x ∷ s) ≤ length (first (lines (x ∷ (s ++ t))))
       at true e k = rw e (omega arith)
       at false e k = rw (lines-more x (s ++ t) e, index-more x s e) (omega arith)
-
--- what `find` found
-pub found : (s : List ℕ) {end : ℕ} → end ≡ 0 + indexOf 10 (slice 0 (length s) s) → end ≡ indexOf 10 s
-unfolding slice
-found s e = e ∙ rw (zero-add, take-all (length s) s (omega arith))
 
 -- a line that can be answered has a byte
 pub ready-some : (ended : Bool) (s : List ℕ) → ready ended s ≡ true → 0 < length s

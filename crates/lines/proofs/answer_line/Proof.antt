@@ -4,7 +4,8 @@ use mathlib.Core.Logic.{inl, inr, ⊎-elim}
 use native.Mathlib.Omega.{arith}
 use lib.ListN.{length, length-take}
 use borrow.Author.Needs.{needs}
-use Rattle.pending.proofs.Cuts.{found, used-some}
+use Rattle.words.proofs.Splits.{found}
+use Rattle.pending.proofs.Cuts.{used-some}
 use Rattle.lines.proofs.Turns.{turn-waiting, turn-passed, turn-full, turn-answered}
 use Rattle.lines.proofs.answer_line.Statement.{statement}
 use Rattle.lines.proofs.answer_line.Tie as tie
@@ -12,13 +13,13 @@ use Rattle.lines.proofs.answer_line.Tie as tie
 add-used : tie.Need-add-used
 add-used c =
     let args = c .before .before .before .args in
-    rw (found (args .s .now) (c .find .ensures .0)) (let k = used-some (args .s .now) .0 in omega arith)
+    rw (found 10 (args .s .now) (c .find .ensures .0)) (let k = used-some (args .s .now) .0 in omega arith)
 
 returns : tie.Need-returns
-returns c = rw (found (c .before .before .before .before .args .s .now) (c .before .find .ensures .0), c .if1 .taken) (turn-passed _ _ _)
+returns c = rw (found 10 (c .before .before .before .before .args .s .now) (c .before .find .ensures .0), c .if1 .taken) (turn-passed _ _ _)
 
 is-ready-requires : tie.Need-is-ready-requires
-is-ready-requires c κs = found _ (c .before .find .ensures .0)
+is-ready-requires c κs = found 10 _ (c .before .find .ensures .0)
 
 slice-aggregate-answer : tie.Need-slice-aggregate-answer
 slice-aggregate-answer c =
@@ -34,7 +35,7 @@ returns-2 c =
     let answer = c .before .before .before .answer in
     let is-ready = c .before .before .before .before .before .before .before .before .is-ready in
     let if2 = c .before .before .before .before .before .before .before .if2 in
-    let q = found (args .s .now) (find .ensures .0) in
+    let q = found 10 (args .s .now) (find .ensures .0) in
     rw (q, if1 .left)
     (turn-answered (args .s .now) _ (args .out .now) (if3 .length) (answer .ensures) (c .if4 .taken) (answer .kept .1 .0)
     (sym (is-ready .ensures) ∙ if2 .taken)
@@ -47,7 +48,7 @@ returns-3 c =
     let args = c .before .before .before .before .before .before .before .before .before .before .before .before .before .args in
     let if3 = c .before .before .before .before .before .before .if3 in
     let answer = c .before .before .before .answer in
-    let q = found (args .s .now) (c .before .before .before .before .before .before .before .before .before .before .find .ensures .0) in
+    let q = found 10 (args .s .now) (c .before .before .before .before .before .before .before .before .before .before .find .ensures .0) in
     rw (if1 .left)
     (turn-full (args .s .now) _ (args .out .now) (if3 .length) (answer .ensures) (λ h. omega arith)
     (⊎-elim (λ w. omega arith) (λ w. omega arith) (if3 .came)))
