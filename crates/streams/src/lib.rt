@@ -1,12 +1,11 @@
-// Standard input and output of the program `tai`, and the request in its arguments.
-use desk::answer;
+// The arguments, standard input and standard output of the program `tai`.
 use libc::STDIN_FILENO;
 use libc::STDOUT_FILENO;
 ghost use Prim.Native.Nat.{_+_, _≤_, _<_};
 ghost use lib.ListN.{length};
 
 // The arguments joined by blanks, and their length. Where they have no room it is all of request, which is too long.
-fn join_arguments(request: &mut [u8]) -> usize
+pub fn join_arguments(request: &mut [u8]) -> usize
     ensures { λ r. ⌜ r ≤ length (now (request .exit)) ⌝ }
 {
     let count = os::arg_count();
@@ -40,12 +39,6 @@ pub fn write(out: &[u8], n: usize) -> bool
     }
     os::fail(b"tai: standard output");
     false
-}
-
-pub fn answer_arguments(request: &mut [u8], out: &mut [u8]) {
-    let n = join_arguments(request);
-    let m = answer(&request[..n], out);
-    write(out, m);
 }
 
 // One read, behind the bytes kept. There is room for a byte, so that none is the input's end, or an error, which is told.

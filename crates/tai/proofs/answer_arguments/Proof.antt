@@ -1,10 +1,10 @@
--- `streams::answer_arguments`: what is answered lies within out.
+-- `tai::answer_arguments`: what is answered lies within out.
 use native.Mathlib.Omega.{arith}
 use lib.ListN.{length-take}
 use borrow.Author.Needs.{needs}
 use Rattle.desk.proofs.Answered.{answered-fits}
-use Rattle.streams.proofs.answer_arguments.Statement.{statement}
-use Rattle.streams.proofs.answer_arguments.Tie as tie
+use Rattle.tai.proofs.answer_arguments.Statement.{statement}
+use Rattle.tai.proofs.answer_arguments.Tie as tie
 
 slice-aggregate-answer : tie.Need-slice-aggregate-answer
 slice-aggregate-answer c = rw length-take (omega (arith, c .before .before .before .join-arguments .ensures))
