@@ -10,9 +10,9 @@ use Rattle.answers.specs.declared.Said.{Said}
 use Rattle.answers.specs.declared.Said.the-variants.{Time, Unix, Lasts, Number, Word, Refused, Malformed}
 
 abbrev pub saidText : Said → List ℕ
-saidText (Time t) = timeLine (gives (t .secs, t .nanos))
-saidText (Unix u) = line integer (gives (u .0))
-saidText (Lasts d) = durationLine (gives (d .secs, d .nanos))
+saidText (Time secs nanos) = timeLine (gives (secs, nanos))
+saidText (Unix secs) = line integer (gives secs)
+saidText (Lasts secs nanos) = durationLine (gives (secs, nanos))
 saidText (Number n) = line natural (gives n)
 saidText (Word i) = bytes "ok " ++ wordAt i (bytes " earlier same later")
 saidText (Refused r) = line natural (told r)

@@ -1,7 +1,4 @@
 // What an entry answered, in one form for all, and the line that says it.
-use counts::Duration;
-use counts::TaiTime;
-use counts::UnixSeconds;
 use errors::Refusal;
 use texts::put;
 use texts::put_behind_blank;
@@ -17,9 +14,9 @@ ghost use Rattle.answers.specs.Answers.{names, mark, line};
 ghost use Rattle.answers.specs.Said.{saidText};
 
 pub enum Said {
-    Time(TaiTime),
-    Unix(UnixSeconds),
-    Lasts(Duration),
+    Time(i64, u32), // seconds and nanoseconds
+    Unix(i64), // seconds
+    Lasts(u64, u32), // seconds and nanoseconds
     Number(u64),
     Word(usize), // of `earlier same later`
     Refused(Refusal),
@@ -69,19 +66,19 @@ pub fn put_said(out: &mut [u8], said: Said) -> usize
     ensures { λ r. ⌜ r ≤ 80 ⌝ }
 {
     match said {
-        Said::Time(t) => {
+        Said::Time(secs, nanos) => {
             let at = put(out, 0, b"ok ");
-            let at = put_integer(out, at, t.secs);
-            put_behind_blank(out, at, t.nanos as u64)
+            let at = put_integer(out, at, secs);
+            put_behind_blank(out, at, nanos as u64)
         }
-        Said::Unix(u) => {
+        Said::Unix(secs) => {
             let at = put(out, 0, b"ok ");
-            put_integer(out, at, u.0)
+            put_integer(out, at, secs)
         }
-        Said::Lasts(d) => {
+        Said::Lasts(secs, nanos) => {
             let at = put(out, 0, b"ok ");
-            let at = put_natural(out, at, d.secs);
-            put_behind_blank(out, at, d.nanos as u64)
+            let at = put_natural(out, at, secs);
+            put_behind_blank(out, at, nanos as u64)
         }
         Said::Number(n) => {
             let at = put(out, 0, b"ok ");

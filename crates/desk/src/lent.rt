@@ -1,4 +1,5 @@
 // The verbs that print, and that write into lent bytes.
+use answers::Said;
 use answers::put_refusal;
 use answers::put_said;
 use counts::Epoch;
@@ -6,7 +7,6 @@ use counts::TaiTime;
 use entries::given::epoch_word;
 use entries::given::precision_at;
 use entries::given::time_at;
-use entries::said;
 use printer::Precision;
 use printer::Printed;
 use printer::display;
@@ -15,10 +15,14 @@ use texts::hex::unhex;
 use texts::put;
 use words::values::u64_at;
 use words::words::word_at;
+ghost use mathlib.Core.Path.{_≡_};
 ghost use Prim.Native.Nat.{_+_, _*_, _≤_, _<_};
 ghost use lib.ListN.{length};
 ghost use Rattle.printer.specs.Display.{displayed};
-ghost use Rattle.texts.specs.Texts.{Put};
+ghost use Rattle.printer.specs.Line.{said};
+ghost use Rattle.texts.specs.Texts.{natural, Put};
+ghost use Rattle.answers.specs.Answers.{line};
+ghost use Rattle.answers.specs.Said.{saidText};
 ghost use Rattle.desk.specs.Verbs.{lentLine, answerOf};
 
 pub(crate) fn print(s: &[u8], out: &mut [u8]) -> usize
@@ -42,6 +46,15 @@ pub(crate) fn print(s: &[u8], out: &mut [u8]) -> usize
     }
 }
 
+fn said_printed(a: Printed) -> Said
+    ensures { λ r. ⌜ saidText r ≡ line natural (said a) ⌝ }
+{
+    match a {
+        Printed::Length(n) => Said::Number(n as u64),
+        Printed::Refused(e) => Said::Refused(e.refusal()),
+    }
+}
+
 // The lent bytes stand behind what was answered, as they are then.
 fn print_in(
     t: TaiTime,
@@ -56,7 +69,7 @@ fn print_in(
     ensures { λ r. ⌜ r < 2 * length (now (lent .entry)) + 128 ⌝ }
 {
     let printed = display(t, epoch, precision, lent, at);
-    let end = put_said(out, said::printed(printed));
+    let end = put_said(out, said_printed(printed));
     let end = put(out, end, b" ");
     put_hex(out, end, lent)
 }

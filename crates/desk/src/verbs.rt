@@ -8,6 +8,7 @@ use entries::given::duration_at;
 use entries::given::epoch_word;
 use entries::given::time_at;
 use entries::said;
+use reader::ReadAnswer;
 use reader::from_str;
 use texts::hex::unhex;
 use words::values::i32_at;
@@ -19,8 +20,19 @@ use words::words::word_at;
 ghost use mathlib.Core.Path.{_≡_};
 ghost use Prim.Native.Nat.{_≤_};
 ghost use lib.ListN.{length};
+ghost use Rattle.reader.specs.Stamp.{saidRead};
+ghost use Rattle.answers.specs.Answers.{timeLine};
 ghost use Rattle.answers.specs.Said.{saidText};
 ghost use Rattle.desk.specs.Verbs.{answerOf};
+
+fn said_read(a: ReadAnswer) -> Said
+    ensures { λ r. ⌜ saidText r ≡ timeLine (saidRead a) ⌝ }
+{
+    match a {
+        ReadAnswer::At(t) => Said::Time(t.secs, t.nanos),
+        ReadAnswer::Refused(e) => Said::Refused(e.refusal()),
+    }
+}
 
 fn read_hex(s: &[u8]) -> Said
     requires { ⌜ length (now s) ≤ 65535 ⌝ }
@@ -28,7 +40,7 @@ fn read_hex(s: &[u8]) -> Said
 {
     let mut bytes = [0u8; 32768];
     let n = unhex(word_at(s, 1), &mut bytes);
-    said::read(from_str(&bytes[..n], epoch_word(s, 0)))
+    said_read(from_str(&bytes[..n], epoch_word(s, 0)))
 }
 
 pub(crate) fn said_of(verb: usize, s: &[u8]) -> Said
@@ -59,7 +71,7 @@ pub(crate) fn said_of(verb: usize, s: &[u8]) -> Said
         8 => said::time(time_at(s, 0).checked_sub(duration_at(s, 2))),
         9 => said::duration(time_at(s, 0).checked_duration_since(time_at(s, 2))),
         10 => said::ordering(time_at(s, 0).cmp(time_at(s, 2))),
-        11 => said::read(from_str(skip(rest_at(s, 1), 1), epoch_word(s, 0))),
+        11 => said_read(from_str(skip(rest_at(s, 1), 1), epoch_word(s, 0))),
         12 => read_hex(s),
         _ => Said::Malformed,
     }

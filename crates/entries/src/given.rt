@@ -2,7 +2,7 @@
 use counts::Duration;
 use counts::Epoch;
 use counts::TaiTime;
-use printer::Precision;
+use printed_parts::Precision;
 use texts::same;
 use words::tables::epoch_row;
 use words::values::i64_at;

@@ -6,13 +6,9 @@ use counts::Ordering;
 use counts::OrderingAnswer;
 use counts::TimeAnswer;
 use counts::UnixAnswer;
-use printer::Printed;
-use reader::ReadAnswer;
 ghost use mathlib.Core.Path.{_≡_};
 ghost use Rattle.counts.specs.Said.{saidTime, saidDateTime, saidUnix, saidDuration, saidOrdering};
-ghost use Rattle.reader.specs.Stamp.{saidRead};
-ghost use Rattle.printer.specs.Line.{said};
-ghost use Rattle.texts.specs.Texts.{natural, integer};
+ghost use Rattle.texts.specs.Texts.{integer};
 ghost use Rattle.answers.specs.Answers.{line, timeLine, durationLine, orderText};
 ghost use Rattle.answers.specs.Said.{saidText};
 
@@ -20,7 +16,7 @@ pub fn time(a: TimeAnswer) -> Said
     ensures { λ r. ⌜ saidText r ≡ timeLine (saidTime a) ⌝ }
 {
     match a {
-        TimeAnswer::At(t) => Said::Time(t),
+        TimeAnswer::At(t) => Said::Time(t.secs, t.nanos),
         TimeAnswer::Refused(e) => Said::Refused(e.refusal()),
     }
 }
@@ -29,17 +25,8 @@ pub fn date_time(a: DateTimeAnswer) -> Said
     ensures { λ r. ⌜ saidText r ≡ timeLine (saidDateTime a) ⌝ }
 {
     match a {
-        DateTimeAnswer::At(t) => Said::Time(t),
+        DateTimeAnswer::At(t) => Said::Time(t.secs, t.nanos),
         DateTimeAnswer::Refused(e) => Said::Refused(e.refusal(false)),
-    }
-}
-
-pub fn read(a: ReadAnswer) -> Said
-    ensures { λ r. ⌜ saidText r ≡ timeLine (saidRead a) ⌝ }
-{
-    match a {
-        ReadAnswer::At(t) => Said::Time(t),
-        ReadAnswer::Refused(e) => Said::Refused(e.refusal()),
     }
 }
 
@@ -47,7 +34,7 @@ pub fn unix(a: UnixAnswer) -> Said
     ensures { λ r. ⌜ saidText r ≡ line integer (saidUnix a) ⌝ }
 {
     match a {
-        UnixAnswer::At(u) => Said::Unix(u),
+        UnixAnswer::At(u) => Said::Unix(u.0),
         UnixAnswer::Refused(e) => Said::Refused(e.refusal()),
     }
 }
@@ -56,7 +43,7 @@ pub fn duration(a: DurationAnswer) -> Said
     ensures { λ r. ⌜ saidText r ≡ durationLine (saidDuration a) ⌝ }
 {
     match a {
-        DurationAnswer::Lasts(d) => Said::Lasts(d),
+        DurationAnswer::Lasts(d) => Said::Lasts(d.secs, d.nanos),
         DurationAnswer::Refused(e) => Said::Refused(e.refusal()),
     }
 }
@@ -71,14 +58,5 @@ pub fn ordering(a: OrderingAnswer) -> Said
             Ordering::Greater => Said::Word(2),
         },
         OrderingAnswer::Refused(e) => Said::Refused(e.refusal()),
-    }
-}
-
-pub fn printed(a: Printed) -> Said
-    ensures { λ r. ⌜ saidText r ≡ line natural (said a) ⌝ }
-{
-    match a {
-        Printed::Length(n) => Said::Number(n as u64),
-        Printed::Refused(e) => Said::Refused(e.refusal()),
     }
 }

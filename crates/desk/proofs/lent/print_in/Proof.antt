@@ -17,4 +17,4 @@ print-in-spec =
     (λ c κs. search needs)
     (λ c. search needs)
     (λ c. search needs)
-    (λ c. (rw (← c .before .before .before .before .before .before .before .before .before .before .before .before .before .before .before .before .before .display .ensures, ← c .before .before .before .before .before .before .before .before .before .before .before .before .before .printed .ensures) (put-on (put-on (c .before .before .before .before .before .before .before .before .before .before .before .before .put-said .ensures .0) (c .before .before .before .before .before .before .before .put .ensures)) (c .before .before .put-hex .ensures .0)), omega (arith, c .before .before .before .before .before .before .before .before .before .before .before .before .put-said .ensures .1, c .before .before .before .before .before .before .before .put .ensures .place, c .before .before .put-hex .ensures .1, c .before .before .before .before .before .before .before .before .before .before .before .before .before .before .before .before .before .display .kept .1 .1 .1 .0))))
+    (λ c. (rw (← c .before .before .before .before .before .before .before .before .before .before .before .before .before .before .before .before .before .display .ensures, ← c .before .before .before .before .before .before .before .before .before .before .before .before .before .said-printed .ensures) (put-on (put-on (c .before .before .before .before .before .before .before .before .before .before .before .before .put-said .ensures .0) (c .before .before .before .before .before .before .before .put .ensures)) (c .before .before .put-hex .ensures .0)), omega (arith, c .before .before .before .before .before .before .before .before .before .before .before .before .put-said .ensures .1, c .before .before .before .before .before .before .before .put .ensures .place, c .before .before .put-hex .ensures .1, c .before .before .before .before .before .before .before .before .before .before .before .before .before .before .before .before .before .display .kept .1 .1 .1 .0))))

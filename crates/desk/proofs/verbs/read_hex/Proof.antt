@@ -21,4 +21,4 @@ read-hex-spec =
     (λ c κs. search needs)
     (λ c κs. search needs)
     (λ c κs. search needs)
-    (λ c. rw (← c .before .before .epoch-word .ensures, ← c .before .before .before .before .before .before .before .word-at .ensures, ← c .before .before .before .before .before .unhex .ensures .front, ← c .before .from-str .ensures) (c .read .ensures)))
+    (λ c. rw (← c .before .before .epoch-word .ensures, ← c .before .before .before .before .before .before .before .word-at .ensures, ← c .before .before .before .before .before .unhex .ensures .front, ← c .before .from-str .ensures) (c .said-read .ensures)))

@@ -35,6 +35,6 @@ said-of-spec =
     (λ c. rw (c .before .before .before .before .match .keys7, ← c .before .before .before .time-at4 .ensures .0, ← c .before .before .before .time-at4 .ensures .1, ← c .before .before .duration-at2 .ensures .0, ← c .before .before .duration-at2 .ensures .1, ← c .before .checked-sub .ensures) (c .time5 .ensures))
     (λ c. rw (c .before .before .before .before .match .keys8, ← c .before .before .before .time-at5 .ensures .0, ← c .before .before .before .time-at5 .ensures .1, ← c .before .before .time-at6 .ensures .0, ← c .before .before .time-at6 .ensures .1, ← c .before .checked-duration-since .ensures) (c .duration .ensures))
     (λ c. rw (c .before .before .before .before .match .keys9, ← c .before .before .before .time-at7 .ensures .0, ← c .before .before .before .time-at7 .ensures .1, ← c .before .before .time-at8 .ensures .0, ← c .before .before .time-at8 .ensures .1, ← c .before .cmp .ensures) (c .ordering .ensures))
-    (λ c. rw (c .before .before .before .before .before .match .keys10, ← c .before .before .epoch-word6 .ensures, ← c .before .before .before .before .rest-at .ensures, ← c .before .before .before .skip .ensures, ← c .before .from-str .ensures) (c .read .ensures))
+    (λ c. rw (c .before .before .before .before .before .match .keys10, ← c .before .before .epoch-word6 .ensures, ← c .before .before .before .before .rest-at .ensures, ← c .before .before .before .skip .ensures, ← c .before .from-str .ensures) (c .said-read .ensures))
     (λ c. rw (c .before .match .keys11) (c .read-hex .ensures))
     (λ c. let no = c .match .rest in past _ _ (after 12 (after 11 (after 10 (after 9 (after 8 (after 7 (after 6 (after 5 (after 4 (after 3 (after 2 (c .before .before .pre .0) (no .0 .0 .0 .0 .0 .0 .0 .0 .0 .0 .1)) (no .0 .0 .0 .0 .0 .0 .0 .0 .0 .1)) (no .0 .0 .0 .0 .0 .0 .0 .0 .1)) (no .0 .0 .0 .0 .0 .0 .0 .1)) (no .0 .0 .0 .0 .0 .0 .1)) (no .0 .0 .0 .0 .0 .1)) (no .0 .0 .0 .0 .1)) (no .0 .0 .0 .1)) (no .0 .0 .1)) (no .0 .1)) (no .1))))
