@@ -25,23 +25,14 @@ ghost use Rattle.answers.specs.Answers.{line};
 ghost use Rattle.answers.specs.Said.{saidText};
 ghost use Rattle.desk.specs.Verbs.{lentLine, answerOf};
 
+// The text is printed into the answer itself, behind the three bytes that say so.
 pub(crate) fn print(s: &[u8], out: &mut [u8]) -> usize
     requires { ⌜ 128 ≤ length (now out) ⌝ }
     ensures { λ r. ⌜ Put (now (out .entry)) 0 (answerOf 0 (now (s .entry))) (now (out .exit)) r ⌝ }
     ensures { λ r. ⌜ r < 128 ⌝ }
 {
-    let mut text = [0u8; 64];
-    match display(
-        time_at(s, 1),
-        epoch_word(s, 0),
-        precision_at(s, 3),
-        &mut text,
-        0,
-    ) {
-        Printed::Length(n) => {
-            let at = put(out, 0, b"ok ");
-            put(out, at, &text[..n])
-        }
+    match display(time_at(s, 1), epoch_word(s, 0), precision_at(s, 3), out, 3) {
+        Printed::Length(n) => put(out, 0, b"ok ") + n,
         Printed::Refused(e) => put_refusal(out, e.refusal()),
     }
 }
