@@ -5,10 +5,12 @@ use texts::put_behind_blank;
 use texts::put_integer;
 use texts::put_natural;
 use words::words::word_at;
+ghost use mathlib.Core.List.{_++_};
 ghost use Prim.Native.Nat.{_+_, _≤_};
 ghost use lib.ListN.{length};
+ghost use Rattle.errors.specs.Refusals.{gives};
 ghost use Rattle.errors.specs.Told.{told};
-ghost use Rattle.texts.specs.Texts.{natural, Put};
+ghost use Rattle.texts.specs.Texts.{bytes, natural, integer, Put};
 ghost use Rattle.words.specs.Words.{wordAt};
 ghost use Rattle.answers.specs.Answers.{names, mark, line};
 ghost use Rattle.answers.specs.Said.{saidText};
@@ -60,6 +62,33 @@ pub fn put_refusal(out: &mut [u8], refusal: Refusal) -> usize
     at
 }
 
+fn put_ok_integer(out: &mut [u8], n: i64) -> usize
+    requires { ⌜ 128 ≤ length (now out) ⌝ }
+    ensures { λ r. ⌜ Put (now (out .entry)) 0 (line integer (gives n)) (now (out .exit)) r ⌝ }
+    ensures { λ r. ⌜ r ≤ 24 ⌝ }
+{
+    let at = put(out, 0, b"ok ");
+    put_integer(out, at, n)
+}
+
+fn put_ok_natural(out: &mut [u8], n: u64) -> usize
+    requires { ⌜ 128 ≤ length (now out) ⌝ }
+    ensures { λ r. ⌜ Put (now (out .entry)) 0 (line natural (gives n)) (now (out .exit)) r ⌝ }
+    ensures { λ r. ⌜ r ≤ 23 ⌝ }
+{
+    let at = put(out, 0, b"ok ");
+    put_natural(out, at, n)
+}
+
+fn put_ok_word(out: &mut [u8], i: usize) -> usize
+    requires { ⌜ 128 ≤ length (now out) ⌝ }
+    ensures { λ r. ⌜ Put (now (out .entry)) 0 (bytes "ok " ++ wordAt i (bytes " earlier same later")) (now (out .exit)) r ⌝ }
+    ensures { λ r. ⌜ r ≤ 23 ⌝ }
+{
+    let at = put(out, 0, b"ok ");
+    put(out, at, word_at(b" earlier same later", i))
+}
+
 pub fn put_said(out: &mut [u8], said: Said) -> usize
     requires { ⌜ 128 ≤ length (now out) ⌝ }
     ensures { λ r. ⌜ Put (now (out .entry)) 0 (saidText said) (now (out .exit)) r ⌝ }
@@ -67,27 +96,16 @@ pub fn put_said(out: &mut [u8], said: Said) -> usize
 {
     match said {
         Said::Time(secs, nanos) => {
-            let at = put(out, 0, b"ok ");
-            let at = put_integer(out, at, secs);
+            let at = put_ok_integer(out, secs);
             put_behind_blank(out, at, nanos as u64)
         }
-        Said::Unix(secs) => {
-            let at = put(out, 0, b"ok ");
-            put_integer(out, at, secs)
-        }
+        Said::Unix(secs) => put_ok_integer(out, secs),
         Said::Lasts(secs, nanos) => {
-            let at = put(out, 0, b"ok ");
-            let at = put_natural(out, at, secs);
+            let at = put_ok_natural(out, secs);
             put_behind_blank(out, at, nanos as u64)
         }
-        Said::Number(n) => {
-            let at = put(out, 0, b"ok ");
-            put_natural(out, at, n)
-        }
-        Said::Word(i) => {
-            let at = put(out, 0, b"ok ");
-            put(out, at, word_at(b" earlier same later", i))
-        }
+        Said::Number(n) => put_ok_natural(out, n),
+        Said::Word(i) => put_ok_word(out, i),
         Said::Refused(r) => put_refusal(out, r),
         Said::Malformed => put(out, 0, b"malformed"),
     }
