@@ -43,22 +43,28 @@ fn read_hex(s: &[u8]) -> Said
     said_read(from_str(&bytes[..n], epoch_word(s, 0)))
 }
 
+fn date(s: &[u8]) -> Said
+    ensures { λ r. ⌜ saidText r ≡ answerOf 3 (now (s .entry)) ⌝ }
+{
+    said::date_time(TaiTime::try_from_date_time(
+        epoch_word(s, 0),
+        i32_at(s, 1),
+        u8_at(s, 2),
+        u8_at(s, 3),
+        u8_at(s, 4),
+        u8_at(s, 5),
+        u8_at(s, 6),
+        u32_at(s, 7),
+    ))
+}
+
 pub(crate) fn said_of(verb: usize, s: &[u8]) -> Said
     requires { ⌜ (2 ≤ verb) × (length (now s) ≤ 65535) ⌝ }
     ensures { λ r. ⌜ saidText r ≡ answerOf verb (now (s .entry)) ⌝ }
 {
     match verb {
         2 => said::time(TaiTime::new(i64_at(s, 0), u32_at(s, 1))),
-        3 => said::date_time(TaiTime::try_from_date_time(
-            epoch_word(s, 0),
-            i32_at(s, 1),
-            u8_at(s, 2),
-            u8_at(s, 3),
-            u8_at(s, 4),
-            u8_at(s, 5),
-            u8_at(s, 6),
-            u32_at(s, 7),
-        )),
+        3 => date(s),
         4 => said::time(TaiTime::try_from_unix_timestamp(
             epoch_word(s, 0),
             UnixSeconds(i64_at(s, 1)),

@@ -16,11 +16,7 @@ put-spec =
     (λ out₀ at text i₀ out i. (i ≤ length text) × (length out ≡ length out₀) × (sets out₀ at text ≡ sets out (at + i) (drop i text)))
     (λ out₀ at text i₀ out i. length text - i)
     (λ c. (omega arith, refl, rw add-zero))
-    (λ c. omega arith)
-    (λ c. omega arith)
-    (λ c. omega arith)
-    (λ c. omega arith)
-    (λ c. omega arith)
+    (λ c. omega arith) (λ c. omega arith) (λ c. omega arith) (λ c. omega arith) (λ c. omega arith)
     (λ c. let l = c .before .before in
     (omega arith, simp length-set (l .loop .inv .1), l .loop .inv .2 ∙ rw (drop-cons (l .before .args .text .now) (l .loop .i) 0 (omega arith), add-one, add-suc)))
     (λ c. omega arith)

@@ -12,15 +12,10 @@ pub put-integer-spec : {M : Type 1} → statement M
 put-integer-spec =
     tie.close
     (tie.spec
-    (λ c κs. search needs)
-    (λ c κs. search needs)
-    (λ c. search needs)
+    (λ c κs. search needs) (λ c κs. search needs) (λ c. search needs)
     (λ c. let k = c .before .before .before .before in let f = k .before .before .before .fits .n in
     (rw (integer-above _ f (rw (toZ-ofZ f) at (k .before .to-bits .ensures)) (k .if1 .taken)) (c .before .before .put-natural .ensures .0), omega arith))
-    (λ c. search needs)
-    (λ c. search needs)
-    (λ c. search needs)
-    (λ c. search needs)
+    (λ c. search needs) (λ c. search needs) (λ c. search needs) (λ c. search needs)
     (λ c κs. simp length-set (omega arith))
     (λ c. c .before .before .put-natural2 .kept .0 ∙ simp length-set)
     (λ c. let k = c .before .before .before .before in let f = k .before .before .before .fits .n in

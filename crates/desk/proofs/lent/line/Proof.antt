@@ -13,14 +13,9 @@ unfolding answerOf
 line-spec =
     tie.close
     (tie.spec
-    (λ c κs. search needs)
-    (λ c. search needs)
+    (λ c κs. search needs) (λ c. search needs)
     (λ c κs. let e = ap length (c .before .word-at .ensures) in omega (arith, word-within 5 (c .before .before .before .before .args .s .now)))
-    (λ c κs. search needs)
-    (λ c κs. search needs)
-    (λ c κs. search needs)
-    (λ c κs. search needs)
-    (λ c. search needs)
+    (λ c κs. search needs) (λ c κs. search needs) (λ c κs. search needs) (λ c κs. search needs) (λ c. search needs)
     (λ c. rw length-take (omega (arith, c .before .before .before .before .before .before .unhex .ensures .within)))
     (λ c κs. let e = ap length (c .before .before .before .before .before .before .before .before .before .word-at .ensures) in simp length-take (omega (arith, word-within 5 (c .before .before .before .before .before .before .before .before .before .before .before .before .args .s .now), c .before .before .before .before .before .before .before .unhex .ensures .half)))
     (λ c. search needs)

@@ -13,12 +13,9 @@ unfolding answerOf
 read-hex-spec =
     tie.close
     (tie.spec
-    (λ c κs. search needs)
-    (λ c. search needs)
+    (λ c κs. search needs) (λ c. search needs)
     (λ c κs. let e = ap length (c .before .word-at .ensures) in omega (arith, word-within 1 (c .before .before .before .args .s .now)))
     (λ c. search needs)
     (λ c. rw length-take (omega (arith, c .before .before .unhex .ensures .within)))
-    (λ c κs. search needs)
-    (λ c κs. search needs)
-    (λ c κs. search needs)
+    (λ c κs. search needs) (λ c κs. search needs) (λ c κs. search needs)
     (λ c. rw (← c .before .before .epoch-word .ensures, ← c .before .before .before .before .before .before .before .word-at .ensures, ← c .before .before .before .before .before .unhex .ensures .front, ← c .before .from-str .ensures) (c .said-read .ensures)))

@@ -15,9 +15,7 @@ unfolding epochValues
 epoch-word-spec =
     tie.close
     (tie.spec
-    (λ c κs. search needs)
-    (λ c κs. search needs)
-    (λ c κs. search needs)
+    (λ c κs. search needs) (λ c κs. search needs) (λ c κs. search needs)
     (λ c. rw (c .match .keys1) at (epoch-by _ _ _ (rw (c .before .before .word-at .ensures) at (c .before .epoch-row .ensures))))
     (λ c. rw (c .match .keys2) at (epoch-by _ _ _ (rw (c .before .before .word-at .ensures) at (c .before .epoch-row .ensures))))
     (λ c. rw (c .match .keys3) at (epoch-by _ _ _ (rw (c .before .before .word-at .ensures) at (c .before .epoch-row .ensures))))

@@ -9,9 +9,7 @@ unfolding precisionAt
 precision-at-spec =
     tie.close
     (tie.spec
-    (λ c κs. search needs)
-    (λ c. search needs)
-    (λ c κs. search needs)
+    (λ c κs. search needs) (λ c. search needs) (λ c κs. search needs)
     (λ c. rw (← c .before .before .before .word-at .ensures, ← c .before .same .ensures, c .if1 .taken))
     (λ c κs. search needs)
     (λ c. rw (← c .before .before .before .before .word-at .ensures, ← c .before .before .same .ensures, c .before .if1 .left, c .u64-at .ensures)))

@@ -19,9 +19,7 @@ put-hex-spec =
     (tie.spec
     (λ out₀ at bytes i₀ next₀ out i next. (i ≤ length bytes) × (next ≡ at + 2 * i) × (length out ≡ length out₀) × (sets out₀ at (digitPairs bytes) ≡ sets out next (digitPairs (drop i bytes))))
     (λ out₀ at bytes i₀ next₀ out i next. length bytes - i)
-    (λ c. omega arith)
-    (λ c. omega arith)
-    (λ c. search needs)
+    (λ c. omega arith) (λ c. omega arith) (λ c. search needs)
     (λ c. let e = eq-eqb (length (c .before .before .before .args .bytes .now)) 0 (c .if1 .taken) in (record { line = rw e; place = rw e (omega arith) }, omega arith))
     (λ c. (omega arith, omega arith, refl, refl))
     (λ c. omega arith)
@@ -30,9 +28,7 @@ put-hex-spec =
     (λ c κs. omega (arith, c .before .shared-slice-known2 .given (c .before .before .before .loop .i)))
     (λ c. omega arith)
     (λ c. simp length-set (omega arith))
-    (λ c. omega arith)
-    (λ c. omega arith)
-    (λ c. omega arith)
+    (λ c. omega arith) (λ c. omega arith) (λ c. omega arith)
     (λ c. let l = c .before .before .before .before in
     let e : l .loop .next + 2 ≡ suc (suc (l .loop .next)) = omega arith in
     (omega arith, omega arith, simp length-set (l .loop .inv .2), l .loop .inv .3 ∙ rw (c .before .digit .ensures, c .digit2 .ensures, drop-cons (l .before .before .before .before .args .bytes .now) (l .loop .i) 0 (omega arith), e, add-one, add-one)))

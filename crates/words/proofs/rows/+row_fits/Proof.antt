@@ -24,11 +24,8 @@ pub +row-fits-spec : {M : Type 1} → statement M
     (and 2 ps (is 2 ps μ t) reads.Pre)
     reads.Post
     (λ c. fits-none _ _ (c .if1 .taken))
-    (λ c. omega arith)
-    (λ c κs. search needs)
+    (λ c. omega arith) (λ c κs. search needs)
     (λ c. fits-not _ _ (omega arith) (sym (c .before .is-good .ensures) ∙ not-true (c .before .is-good .result) (c .if2 .taken)))
-    (λ c κs. search needs)
-    (λ c κs. search needs)
-    (λ c κs. search needs)
+    (λ c κs. search needs) (λ c κs. search needs) (λ c κs. search needs)
     (λ c κs. let k = simp length-drop at (ap length (c .skip2 .ensures)) in omega arith)
     (λ c. rw (c .before .skip2 .ensures, c .before .before .skip .ensures, c .before .before .before .field-length .ensures .0) at (c .row-fits .ensures) ∙ fits-more _ _ (omega arith) (sym (c .before .before .before .before .before .is-good .ensures) ∙ not-false (c .before .before .before .before .before .is-good .result) (c .before .before .before .before .if2 .left))))

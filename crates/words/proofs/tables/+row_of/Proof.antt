@@ -24,11 +24,8 @@ unfolding rowFrom
     (and 2 ps (is 2 ps μ t) reads.Pre)
     reads.Post
     (λ c. (rw (c .if1 .taken), omega arith))
-    (λ c κs. search needs)
-    (λ c κs. search needs)
+    (λ c κs. search needs) (λ c κs. search needs)
     (λ c. (row-found _ (c .before .before .before .before .before .before .args .left) _ _ _ (omega arith) (rw (c .before .before .field-word .ensures) at (sym (c .before .same .ensures) ∙ c .if2 .taken)), omega arith))
-    (λ c κs. search needs)
-    (λ c. omega arith)
-    (λ c. omega arith)
+    (λ c κs. search needs) (λ c. omega arith) (λ c. omega arith)
     (λ c κs. (omega arith, omega arith))
     (λ c. (rw (c .before .rest-at .ensures) at (c .row-of .ensures .0) ∙ row-more _ (c .before .before .before .before .before .before .before .before .args .left) _ _ _ (omega arith) (rw (c .before .before .before .before .field-word .ensures) at (sym (c .before .before .before .same .ensures) ∙ c .before .before .if2 .left)), omega (arith, c .row-of .ensures .1))))

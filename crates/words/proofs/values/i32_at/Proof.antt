@@ -19,9 +19,7 @@ unfolding wholeAt
 i32-at-spec =
     tie.close
     (tie.spec
-    (λ c κs. search needs)
-    (λ c κs. search needs)
-    (λ c. search needs)
+    (λ c κs. search needs) (λ c κs. search needs) (λ c. search needs)
     cast-result
     (λ c. search needs)
     (λ c. let f : SFits w64 (c .before .v .given .0 .0) = search needs in let g = cast-result c in rw (toZ-ofZ {w = w32} g, toZ-ofZ {w = w64} f, ← c .before .before .before .before .word-at .ensures, ← c .before .before .before .parse-signed .ensures, c .before .v .given .1))

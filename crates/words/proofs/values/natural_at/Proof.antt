@@ -12,10 +12,7 @@ unfolding naturalAt
 natural-at-spec =
     tie.close
     (tie.spec
-    (λ c κs. search needs)
-    (λ c κs. search needs)
-    (λ c. search needs)
-    (λ c. search needs)
+    (λ c κs. search needs) (λ c κs. search needs) (λ c. search needs) (λ c. search needs)
     (λ c. let e = rw (c .before .before .before .before .word-at .ensures) at (sym (c .before .before .before .parse-unsigned .ensures) ∙ c .before .v .given .1) in
     (rw e, unsigned-small _ _ e))
     (λ c. (rw (← c .before .before .before .word-at .ensures, ← c .before .before .parse-unsigned .ensures, c .enum-told .given .1), omega arith)))

@@ -23,8 +23,5 @@ unfolding restAt
     (and 1 ps (is 1 ps μ t) reads.Pre)
     reads.Post
     (λ c. rw (c .if1 .taken))
-    (λ c κs. search needs)
-    (λ c κs. search needs)
-    (λ c. omega arith)
-    (λ c κs. search needs)
+    (λ c κs. search needs) (λ c κs. search needs) (λ c. omega arith) (λ c κs. search needs)
     (λ c. rw (c .before .skip .ensures, c .before .before .field-length .ensures .0) at (c .rest-at .ensures) ∙ sym (rest-more (c .before .before .before .before .before .args .i) (c .before .before .before .before .before .args .s .now) (omega arith))))

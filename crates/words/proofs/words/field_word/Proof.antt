@@ -12,10 +12,6 @@ unfolding fieldWord
 field-word-spec =
     tie.close
     (tie.spec
-    (λ c κs. search needs)
-    (λ c. search needs)
-    (λ c. search needs)
-    (λ c. search needs)
-    (λ c. search needs)
+    (λ c κs. search needs) (λ c. search needs) (λ c. search needs) (λ c. search needs) (λ c. search needs)
     (λ c. rw (← c .before .before .field-length .ensures .0))
     (λ c. let z : c .before .before .field-length .result - 1 ≡ 0 = omega arith in rw (← c .before .before .field-length .ensures .0, z)))
