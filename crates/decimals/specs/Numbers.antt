@@ -1,4 +1,4 @@
--- The number in a field. A text is the list of its bytes, and each definition but `pairAt` reads a list from its front.
+-- Decimal digits as numbers. A text is the list of its bytes, and each definition but `pairAt` reads a list from its front.
 use mathlib.Core.Bool.{Bool, true, false, cond, _&&_}
 use mathlib.Core.List.{List, [], _∷_}
 use Prim.Native.Nat.{ℕ, _+_, _-_, _*_}

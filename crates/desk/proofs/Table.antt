@@ -1,9 +1,9 @@
 -- The table of verbs by its numbers.
 use mathlib.Core.Path.{_≡_, refl, sym, _∙_}
 use mathlib.Core.Bool.{cond}
-use mathlib.Core.List.{List, [], _∷_}
+use mathlib.Core.List.{List}
 use Prim.Native.Nat.{ℕ, _≤_}
-use lib.ListN.{length, take, drop, getD, List·getD-eq-default}
+use lib.ListN.{length, take, drop, List·getD-eq-default}
 use borrow.Author.Tests.{le-ltb}
 use Rattle.texts.specs.Texts.{bytes}
 use Rattle.bytes.specs.Bytes.{indexOf, indexAfter}

@@ -18,25 +18,25 @@ use Rattle.entries.specs.Kinds.{epoch, i64, i32, u64, u32, u8, precision, hex, 
 abbrev pub lentLine : Outcome ℕ × List ℕ → List ℕ
 lentLine o = line natural (o .0) ++ bytes " " ++ hexText (o .1)
 
--- a verb: its word, the kinds of the words behind it, and the answer to such words
+-- a verb: its word, the kinds of the words behind it, and the answer to such words (`start`: the epoch, in seconds from 1970)
 pub data Row : Type 0 where
   row : String → (kinds : Kinds) → Answer kinds → Row
 
 abbrev pub rows : List Row
 rows =
-    row "print" (epoch ▸ i64 ▸ u32 ▸ precision ▸ end) (λ epoch secs nanos precision. line (λ text. text) (goodNanos nanos (gives (timeText secs nanos epoch precision))))
-    ∷ row "line" (epoch ▸ i64 ▸ u32 ▸ precision ▸ u64 ▸ hex ▸ end) (λ epoch secs nanos precision at lent. lentLine (displayed secs nanos epoch precision lent at))
+    row "print" (epoch ▸ i64 ▸ u32 ▸ precision ▸ end) (λ start secs nanos digits. line (λ text. text) (goodNanos nanos (gives (timeText secs nanos start digits))))
+    ∷ row "line" (epoch ▸ i64 ▸ u32 ▸ precision ▸ u64 ▸ hex ▸ end) (λ start secs nanos digits at lent. lentLine (displayed secs nanos start digits lent at))
     ∷ row "new" (i64 ▸ u32 ▸ end) (λ secs nanos. timeLine (newTime secs nanos))
-    ∷ row "date" (epoch ▸ i32 ▸ u8 ▸ u8 ▸ u8 ▸ u8 ▸ u8 ▸ u32 ▸ end) (λ epoch year month day hour min sec nanos. timeLine (fromDateTime epoch year month day hour min sec nanos))
-    ∷ row "unix" (epoch ▸ i64 ▸ u32 ▸ i64 ▸ end) (λ epoch unix nanos leap. timeLine (fromUnix epoch unix nanos leap))
-    ∷ row "to-unix" (epoch ▸ i64 ▸ u32 ▸ i64 ▸ end) (λ epoch secs nanos leap. line integer (toUnix epoch secs nanos leap))
+    ∷ row "date" (epoch ▸ i32 ▸ u8 ▸ u8 ▸ u8 ▸ u8 ▸ u8 ▸ u32 ▸ end) (λ start year month day hour min sec nanos. timeLine (fromDateTime start year month day hour min sec nanos))
+    ∷ row "unix" (epoch ▸ i64 ▸ u32 ▸ i64 ▸ end) (λ start unix nanos leap. timeLine (fromUnix start unix nanos leap))
+    ∷ row "to-unix" (epoch ▸ i64 ▸ u32 ▸ i64 ▸ end) (λ start secs nanos leap. line integer (toUnix start secs nanos leap))
     ∷ row "epoch" (epoch ▸ epoch ▸ i64 ▸ u32 ▸ end) (λ from to secs nanos. timeLine (overEpoch from to secs nanos))
     ∷ row "add" (i64 ▸ u32 ▸ u64 ▸ u32 ▸ end) (λ secs nanos durationSecs durationNanos. timeLine (added secs nanos durationSecs durationNanos))
     ∷ row "sub" (i64 ▸ u32 ▸ u64 ▸ u32 ▸ end) (λ secs nanos durationSecs durationNanos. timeLine (taken secs nanos durationSecs durationNanos))
     ∷ row "since" (i64 ▸ u32 ▸ i64 ▸ u32 ▸ end) (λ secs nanos fromSecs fromNanos. durationLine (since secs nanos fromSecs fromNanos))
     ∷ row "compare" (i64 ▸ u32 ▸ i64 ▸ u32 ▸ end) (λ secs nanos otherSecs otherNanos. line orderText (compared secs nanos otherSecs otherNanos))
-    ∷ row "read" (epoch ▸ rest) (λ epoch text. timeLine (readText 2147483647 epoch text))
-    ∷ row "read-hex" (epoch ▸ hex ▸ end) (λ epoch text. timeLine (readText 2147483647 epoch text))
+    ∷ row "read" (epoch ▸ rest) (λ start text. timeLine (readText 2147483647 start text))
+    ∷ row "read-hex" (epoch ▸ hex ▸ end) (λ start text. timeLine (readText 2147483647 start text))
     ∷ []
 
 -- what a row answers to what stands behind its verb

@@ -75,7 +75,7 @@ unfoldable pub precisionAt : ℕ → List ℕ → Precision
 precisionAt n s = cond (alike (wordAt n s) (bytes "-")) Default (Digits (naturalAt 18446744073709551615 n s))
 
 -- the word n behind the verb, as one of a kind
-abbrev value : (kind : Kind) → ℕ → List ℕ → Value kind
+abbrev pub value : (kind : Kind) → ℕ → List ℕ → Value kind
 value epoch n s = epochAt n s
 value i64 n s = wholeAt 9223372036854775807 n s
 value i32 n s = wholeAt 2147483647 n s

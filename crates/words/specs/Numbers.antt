@@ -1,4 +1,4 @@
--- The numbers of a line, and what stands for one.
+-- The numbers of a line.
 use mathlib.Core.Bool.{cond, _&&_}
 use mathlib.Core.List.{List}
 use Prim.Native.Nat.{ℕ, zero, suc, _+_}

@@ -6,24 +6,20 @@ use lib.ListN.{length, take, replicate, length-take, length-replicate}
 use Rattle.tai.proofs.main.Statement.{statement}
 use Rattle.tai.proofs.main.Tie as tie
 
-module _ (n : ℕ) where
-  whole : n ≡ length (replicate {A = ℕ} n 0)
-  whole = sym (length-replicate n 0)
+whole : (n : ℕ) → n ≡ length (replicate {A = ℕ} n 0)
+whole n = sym (length-replicate n 0)
 
-  room : (k : ℕ) → k ≤ n → k ≤ length (replicate {A = ℕ} n 0)
-  room k h = omega (arith, whole)
-
-  front : (k : ℕ) → k ≤ n → k ≡ length (take k (replicate {A = ℕ} n 0))
-  front k h = rw length-take (omega (arith, whole))
+front : (n k : ℕ) → k ≤ n → k ≡ length (take k (replicate {A = ℕ} n 0))
+front n k h = rw length-take (omega (arith, whole n))
 
 array-borrow-prefix-input : tie.Need-array-borrow-prefix-input
-array-borrow-prefix-input c = room 131072 65536 (omega arith)
+array-borrow-prefix-input c = rw length-replicate (omega arith)
 
 slice-aggregate-answer-arguments : tie.Need-slice-aggregate-answer-arguments
 slice-aggregate-answer-arguments c = front 131072 65536 (omega arith)
 
 answer-input-requires : tie.Need-answer-input-requires
-answer-input-requires c κs = (room 131072 65536 (omega arith), room 131072 65664 (omega arith))
+answer-input-requires c κs = (rw length-replicate (omega arith), rw length-replicate (omega arith))
 
 pub main-spec : {M : Type 1} → statement M
 main-spec =

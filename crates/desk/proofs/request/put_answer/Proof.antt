@@ -15,7 +15,7 @@ use Rattle.desk.proofs.Table.{verbs, kinds, numbered, answer-by}
 use Rattle.desk.proofs.request.put_answer.Statement.{statement}
 use Rattle.desk.proofs.request.put_answer.Tie as tie
 
--- the code's two lines of text are those of the definitions
+-- the code's two lines of text are those of `proofs/Table.antt`
 verb : (k : tie.After-row-of) → k .row-of .result ≡ rowFrom 1 13 0 (take (k .before .before .before .before .before .word-length .result) (k .before .before .before .before .before .before .before .before .before .args .request .now)) verbs
 verb k = k .row-of .ensures .0
 
