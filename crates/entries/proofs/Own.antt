@@ -2,7 +2,7 @@
 use mathlib.Core.Path.{_≡_, refl}
 use mathlib.Core.Bool.{Bool, true, false, _||_}
 use mathlib.Core.List.{List}
-use mathlib.Core.Logic.{_⊎_, inl, inr}
+use mathlib.Core.Logic.{_⊎_, inl, inr, ⊎-elim}
 use Prim.Native.Nat.{ℕ, _<_}
 use native.Mathlib.Omega.{arith}
 use lib.Dec.{ltb}
@@ -43,23 +43,15 @@ either : (a b : Bool) → (a || b) ≡ true → (a ≡ true) ⊎ (b ≡ true)
 either true b e = inl refl
 either false b e = inr e
 
-signed-or : {A : Type 0} (x : Signed) → A ⊎ (isSigned x ≡ true) → A ⊎ (x ≡ Signed.Value (orZero x))
-signed-or x (inl a) = inl a
-signed-or x (inr e) = inr (signed-own x e)
-
-number-or : {A : Type 0} (x : Number) → A ⊎ (isNumber x ≡ true) → A ⊎ (x ≡ Number.Value (orNone x))
-number-or x (inl a) = inl a
-number-or x (inr e) = inr (number-own x e)
-
 own : (kind : Kind) (n : ℕ) (s : List ℕ) → good (getD (letters (kind ▸ end)) 0 0) (restAt n s) ≡ true → Own kind n s
 unfolding good alike wordAt wholeAt naturalAt
-own epoch n s e = signed-or _ (either _ _ e)
+own epoch n s e = ⊎-elim inl (λ k. inr (signed-own _ k)) (either _ _ e)
 own i64 n s e = signed-own _ e
 own i32 n s e = signed-own _ e
 own u64 n s e = number-own _ e
 own u32 n s e = number-own _ e
 own u8 n s e = number-own _ e
-own precision n s e = number-or _ (either _ _ e)
+own precision n s e = ⊎-elim inl (λ k. inr (number-own _ k)) (either _ _ e)
 own hex n s e = e
 
 pub fits-own : (kind : Kind) (row s : List ℕ) (n : ℕ) → n < length row → getD row n 0 ≡ getD (letters (kind ▸ end)) 0 0 → fits row s ≡ true → Own kind n s

@@ -14,8 +14,7 @@ named k = k .word-at .ensures
 
 pub put-name-spec : {M : Type 1} → statement M
 put-name-spec =
-    tie.close
-    (tie.spec
+    tie.close (tie.spec
     (λ c κs. search needs)
     (λ c κs. let e = ap length (named c) in omega (arith, name-short (c .before .before .before .before .before .args .number)))
     (λ c. search needs)

@@ -11,8 +11,7 @@ use Rattle.answers.proofs.put_ok_word.Tie as tie
 
 pub put-ok-word-spec : {M : Type 1} → statement M
 put-ok-word-spec =
-    tie.close
-    (tie.spec
+    tie.close (tie.spec
     (λ c. search needs) (λ c κs. search needs) (λ c. search needs) (λ c κs. search needs)
     (λ c κs. let e = ap length (c .word-at .ensures) in omega (arith, c .before .before .before .before .before .put .ensures .place, word-within (c .before .before .before .before .before .before .before .before .before .args .i) (bytes " earlier same later")))
     (λ c. search needs)

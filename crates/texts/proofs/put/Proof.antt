@@ -11,8 +11,7 @@ use Rattle.texts.proofs.put.Tie as tie
 
 pub put-spec : {M : Type 1} → statement M
 put-spec =
-    tie.close
-    (tie.spec
+    tie.close (tie.spec
     (λ out₀ at text i₀ out i. (i ≤ length text) × (length out ≡ length out₀) × (sets out₀ at text ≡ sets out (at + i) (drop i text)))
     (λ out₀ at text i₀ out i. length text - i)
     (λ c. (omega arith, refl, rw add-zero))

@@ -9,8 +9,7 @@ use Rattle.texts.proofs.put_behind_blank.Tie as tie
 
 pub put-behind-blank-spec : {M : Type 1} → statement M
 put-behind-blank-spec =
-    tie.close
-    (tie.spec
+    tie.close (tie.spec
     (λ c. search needs) (λ c. search needs)
     (λ c κs. simp length-set (omega arith))
     (λ c. c .before .before .put-natural .kept .0 ∙ simp length-set)

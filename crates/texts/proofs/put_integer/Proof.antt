@@ -10,8 +10,7 @@ use Rattle.texts.proofs.put_integer.Tie as tie
 
 pub put-integer-spec : {M : Type 1} → statement M
 put-integer-spec =
-    tie.close
-    (tie.spec
+    tie.close (tie.spec
     (λ c κs. search needs) (λ c κs. search needs) (λ c. search needs)
     (λ c. let k = c .before .before .before .before in let f = k .before .before .before .fits .n in
     (rw (integer-above _ f (rw (toZ-ofZ f) at (k .before .to-bits .ensures)) (k .if1 .taken)) (c .before .before .put-natural .ensures .0), omega arith))

@@ -11,8 +11,7 @@ use Rattle.desk.proofs.lent.line.Tie as tie
 pub line-spec : {M : Type 1} → statement M
 unfolding answerOf
 line-spec =
-    tie.close
-    (tie.spec
+    tie.close (tie.spec
     (λ c κs. search needs) (λ c. search needs)
     (λ c κs. let e = ap length (c .before .word-at .ensures) in omega (arith, word-within 5 (c .before .before .before .before .args .s .now)))
     (λ c κs. search needs) (λ c κs. search needs) (λ c κs. search needs) (λ c κs. search needs) (λ c. search needs)

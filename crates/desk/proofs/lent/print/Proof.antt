@@ -11,8 +11,7 @@ use Rattle.desk.proofs.lent.print.Tie as tie
 pub print-spec : {M : Type 1} → statement M
 unfolding answerOf
 print-spec =
-    tie.close
-    (tie.spec
+    tie.close (tie.spec
     (λ c κs. search needs) (λ c κs. search needs) (λ c κs. search needs) (λ c κs. search needs) (λ c. search needs) (λ c. search needs)
     (λ c κs. search needs)
     (λ c. let w = printed _ _ _ _ _ (omega arith) (search needs) (search needs) (c .before .before .before .before .before .before .before .before .before .before .display .ensures) (ap said (c .before .before .before .before .before .before .n .given .1)) in omega (arith, c .before .before .put .ensures .place))

@@ -9,8 +9,7 @@ use Rattle.desk.proofs.request.answer.Tie as tie
 
 pub answer-spec : {M : Type 1} → statement M
 answer-spec =
-    tie.close
-    (tie.spec
+    tie.close (tie.spec
     (λ c. sym (answered-none _ _ (omega arith)))
     (λ c. search needs)
     (λ c. sym (answered-none _ _ (omega arith)))

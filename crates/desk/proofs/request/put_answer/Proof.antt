@@ -40,8 +40,7 @@ fitted f e = rw (by (search), ← kind (f .before), ← f .row-fits .ensures, e)
 
 pub put-answer-spec : {M : Type 1} → statement M
 put-answer-spec =
-    tie.close
-    (tie.spec
+    tie.close (tie.spec
     (λ c. search needs) (λ c κs. search needs) (λ c. search needs)
     (λ c. (rw (answer-too-long _ (c .before .before .before .before .before .if1 .taken)) (c .before .before .put .ensures), omega (arith, c .before .before .put .ensures .place)))
     (λ c κs. search needs) (λ c κs. search needs)

@@ -11,8 +11,7 @@ use Rattle.desk.proofs.verbs.read_hex.Tie as tie
 pub read-hex-spec : {M : Type 1} → statement M
 unfolding answerOf
 read-hex-spec =
-    tie.close
-    (tie.spec
+    tie.close (tie.spec
     (λ c κs. search needs) (λ c. search needs)
     (λ c κs. let e = ap length (c .before .word-at .ensures) in omega (arith, word-within 1 (c .before .before .before .args .s .now)))
     (λ c. search needs)

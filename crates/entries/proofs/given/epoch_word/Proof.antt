@@ -13,8 +13,7 @@ use Rattle.entries.proofs.given.epoch_word.Tie as tie
 pub epoch-word-spec : {M : Type 1} → statement M
 unfolding epochValues
 epoch-word-spec =
-    tie.close
-    (tie.spec
+    tie.close (tie.spec
     (λ c κs. search needs) (λ c κs. search needs) (λ c κs. search needs)
     (λ c. rw (c .match .keys1) at (epoch-by _ _ _ (rw (c .before .before .word-at .ensures) at (c .before .epoch-row .ensures))))
     (λ c. rw (c .match .keys2) at (epoch-by _ _ _ (rw (c .before .before .word-at .ensures) at (c .before .epoch-row .ensures))))

@@ -7,8 +7,7 @@ use Rattle.entries.proofs.given.precision_at.Tie as tie
 pub precision-at-spec : {M : Type 1} → statement M
 unfolding precisionAt
 precision-at-spec =
-    tie.close
-    (tie.spec
+    tie.close (tie.spec
     (λ c κs. search needs) (λ c. search needs) (λ c κs. search needs)
     (λ c. rw (← c .before .before .before .word-at .ensures, ← c .before .same .ensures, c .if1 .taken))
     (λ c κs. search needs)

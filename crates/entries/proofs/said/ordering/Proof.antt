@@ -8,8 +8,7 @@ use Rattle.entries.proofs.said.ordering.Tie as tie
 pub ordering-spec : {M : Type 1} → statement M
 unfolding wordLength indexOf indexAfter fieldLength fieldWord restAt wordAt
 ordering-spec =
-    tie.close
-    (tie.spec
+    tie.close (tie.spec
     (λ c. search needs) (λ c. search needs) (λ c. search needs) (λ c. search needs) (λ c. search needs) (λ c κs. search needs)
     (λ c. rw (c .before .before .before .a .given .1, c .enum-told .given .1))
     (λ c. rw (c .before .before .before .a .given .1, c .enum-told2 .given .1))

@@ -9,8 +9,7 @@ use Rattle.texts.proofs.hex.digit_value.Tie as tie
 pub digit-value-spec : {M : Type 1} → statement M
 unfolding digitValue
 digit-value-spec =
-    tie.close
-    (tie.spec
+    tie.close (tie.spec
     (λ c. (rw (lt-leb 48 _ (c .if1 .taken), lt-leb 97 (c .before .args .x) (omega arith)), omega arith))
     (λ c. (rw (le-leb 48 _ (c .before .if1 .left), le-leb _ 57 (c .if2 .taken)), omega arith))
     (λ c. (rw (le-leb 48 _ (c .before .before .if1 .left), lt-leb _ 57 (c .before .if2 .left), lt-leb 97 _ (c .if3 .taken)), omega arith))

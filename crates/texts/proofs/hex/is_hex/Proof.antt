@@ -15,8 +15,7 @@ use Rattle.texts.proofs.hex.is_hex.Tie as tie
 pub is-hex-spec : {M : Type 1} → statement M
 unfolding allDigits isHex
 is-hex-spec =
-    tie.close
-    (tie.spec
+    tie.close (tie.spec
     (λ s i₀ i. (i ≤ length s) × (allDigits s ≡ allDigits (drop i s)))
     (λ s i₀ i. length s - i)
     (λ c. search needs) (λ c κs. search needs)

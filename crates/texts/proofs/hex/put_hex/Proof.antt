@@ -15,8 +15,7 @@ use Rattle.texts.proofs.hex.put_hex.Tie as tie
 pub put-hex-spec : {M : Type 1} → statement M
 unfolding digitPairs hexText
 put-hex-spec =
-    tie.close
-    (tie.spec
+    tie.close (tie.spec
     (λ out₀ at bytes i₀ next₀ out i next. (i ≤ length bytes) × (next ≡ at + 2 * i) × (length out ≡ length out₀) × (sets out₀ at (digitPairs bytes) ≡ sets out next (digitPairs (drop i bytes))))
     (λ out₀ at bytes i₀ next₀ out i next. length bytes - i)
     (λ c. omega arith) (λ c. omega arith) (λ c. search needs)

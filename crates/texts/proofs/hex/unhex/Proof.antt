@@ -20,8 +20,7 @@ end (x ∷ y ∷ s) h = absurd (omega arith)
 pub unhex-spec : {M : Type 1} → statement M
 unfolding hexBytes
 unhex-spec =
-    tie.close
-    (tie.spec
+    tie.close (tie.spec
     (λ hex bytes₀ i₀ n₀ bytes i n. (i ≡ 2 * n) × (i ≤ length hex) × (length bytes ≡ length bytes₀) × (hexBytes hex ≡ take n bytes ++ hexBytes (drop i hex)))
     (λ hex bytes₀ i₀ n₀ bytes i n. length hex - i)
     (λ c. (omega arith, omega arith, refl, refl))

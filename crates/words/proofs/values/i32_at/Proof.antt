@@ -17,8 +17,7 @@ cast-result c = let f : SFits w64 (c .before .v .given .0 .0) = search needs in 
 pub i32-at-spec : {M : Type 1} → statement M
 unfolding wholeAt
 i32-at-spec =
-    tie.close
-    (tie.spec
+    tie.close (tie.spec
     (λ c κs. search needs) (λ c κs. search needs) (λ c. search needs)
     cast-result
     (λ c. search needs)

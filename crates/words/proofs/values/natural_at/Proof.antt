@@ -10,8 +10,7 @@ use Rattle.words.proofs.values.natural_at.Tie as tie
 pub natural-at-spec : {M : Type 1} → statement M
 unfolding naturalAt
 natural-at-spec =
-    tie.close
-    (tie.spec
+    tie.close (tie.spec
     (λ c κs. search needs) (λ c κs. search needs) (λ c. search needs) (λ c. search needs)
     (λ c. let e = rw (c .before .before .before .before .word-at .ensures) at (sym (c .before .before .before .parse-unsigned .ensures) ∙ c .before .v .given .1) in
     (rw e, unsigned-small _ _ e))
