@@ -1,8 +1,12 @@
 // The stages of a text behind its year, and the year's sign.
+mod usual; // the short way of most texts
+
 use errors::ParseDateTimeError;
 use fields::Delimiter;
 use fields::Field;
 use fields::Seconds;
+pub use usual::is_usual;
+pub use usual::parse_usual;
 ghost use mathlib.Core.Path.{_≡_};
 ghost use Prim.Native.Nat.{_^_, _<_};
 ghost use Rattle.errors.specs.declared.ParseDateTimeError.the-variants.{MissingField};

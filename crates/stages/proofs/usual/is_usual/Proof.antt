@@ -1,4 +1,4 @@
--- `usual::is_usual`: the text fits from the front as it fits from i on.
+-- `stages::usual::is_usual`: the text fits from the front as it fits from i on.
 use mathlib.Core.Path.{_≡_, refl, _∙_}
 use mathlib.Core.Bool.{Bool, true, false}
 use Prim.Native.Nat.{_-_, _≤_}
@@ -7,10 +7,10 @@ use lib.ListN.{drop}
 use borrow.Author.Tests.{eq-eqb, ne-eqb, not-true, not-false}
 use borrow.Author.Needs.{needs}
 use Rattle.fields.specs.Fields.{isDelimiter}
-use Rattle.usual.specs.Usual.{usualShape, fits, isUsual}
-use Rattle.usual.proofs.Usual.{fits-step, fits-long}
-use Rattle.usual.proofs.is_usual.Statement.{statement}
-use Rattle.usual.proofs.is_usual.Tie as tie
+use Rattle.stages.specs.Usual.{usualShape, fits, isUsual}
+use Rattle.stages.proofs.Shape.{fits-step, fits-long}
+use Rattle.stages.proofs.usual.is_usual.Statement.{statement}
+use Rattle.stages.proofs.usual.is_usual.Tie as tie
 
 refuted : (b : Bool) → (b ≡ true → ⊥) → b ≡ false
 refuted true h = absurd (h refl)

@@ -22,11 +22,11 @@ use Rattle.fields.specs.declared.Seconds.the-variants as Seconds
 use Rattle.decimals.proofs.Values.{Digit, is-digit}
 use Rattle.fields.proofs.Pairs.{other, pair-last, pair-got}
 use Rattle.fields.proofs.Behind.{behind-two}
-use Rattle.usual.specs.Usual.{usualShape, fitsByte, fits, isUsual}
+use Rattle.stages.specs.Usual.{usualShape, fitsByte, fits, isUsual}
 use Rattle.stages.specs.Text.{field, onSeconds, fromMonth, fromYear, withoutSign, parsed}
 use Rattle.stages.specs.declared.Parsed.{Parsed}
 use Rattle.stages.specs.declared.Parsed.the-variants.{Fields}
 use Rattle.stages.proofs.Stages.{read-on}
 
 -- ---- what fits its place
 -- the code's tests for the bytes of the shape

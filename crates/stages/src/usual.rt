@@ -1,14 +1,14 @@
 // Texts of the usual shape.
+use crate::Parsed;
+use crate::with_seconds;
 use fields::Delimiter;
 use fields::Seconds;
-use stages::Parsed;
-use stages::with_seconds;
 ghost use mathlib.Core.Path.{_≡_};
 ghost use mathlib.Core.Bool.{true};
 ghost use Prim.Native.Nat.{ℕ, _≤_};
 ghost use lib.ListN.{getD};
 ghost use Rattle.stages.specs.Text.{parsed};
-ghost use Rattle.usual.specs.Usual.{usualShape, fitsByte, isUsual};
+ghost use Rattle.stages.specs.Usual.{usualShape, fitsByte, isUsual};
 
 // Whether the byte may stand at the place of the usual shape; a digit may stand behind it.
 fn fits_place(place: usize, byte: u8) -> bool

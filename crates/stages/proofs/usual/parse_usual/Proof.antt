@@ -1,4 +1,4 @@
--- `usual::parse_usual`: each field stands in its place.
+-- `stages::usual::parse_usual`: each field stands in its place.
 use mathlib.Core.Path.{_≡_, _∙_}
 use Prim.Native.Nat.{ℕ, _+_, _*_, _≤_}
 use native.Mathlib.Omega.{arith}
@@ -10,12 +10,12 @@ use borrow.Author.Needs.{needs}
 use Rattle.integers.proofs.Machine.{signed, known}
 use Rattle.fields.specs.Fields.{seconds}
 use Rattle.decimals.specs.Numbers.{pairAt}
-use Rattle.usual.specs.Usual.{usualShape, fitsByte}
+use Rattle.stages.specs.Usual.{usualShape, fitsByte}
 use Rattle.stages.specs.Text.{onSeconds, parsed}
 use Rattle.stages.specs.declared.Parsed.the-variants.{Fields}
-use Rattle.usual.proofs.Usual.{two-at, usual-parsed, seconds-last, seconds-more}
-use Rattle.usual.proofs.parse_usual.Statement.{statement}
-use Rattle.usual.proofs.parse_usual.Tie as tie
+use Rattle.stages.proofs.Shape.{two-at, usual-parsed, seconds-last, seconds-more}
+use Rattle.stages.proofs.usual.parse_usual.Statement.{statement}
+use Rattle.stages.proofs.usual.parse_usual.Tie as tie
 
 pair-requires : tie.Need-pair-requires
 unfolding usualShape fitsByte

@@ -1,4 +1,4 @@
--- `usual::fits_place`: the tests are the shape's bytes (`shape-at`).
+-- `stages::usual::fits_place`: the tests are the shape's bytes (`shape-at`).
 use mathlib.Core.Path.{_≡_}
 use mathlib.Core.Logic.{⊎-elim}
 use mathlib.Core.Bool.{true, _||_}
@@ -6,10 +6,10 @@ use lib.Dec.{eqb}
 use borrow.Author.Tests.{eq-eqb, ne-eqb}
 use borrow.Author.Needs.{needs}
 use Rattle.fields.specs.Fields.{isDelimiter}
-use Rattle.usual.specs.Usual.{fitsByte}
-use Rattle.usual.proofs.Usual.{shape-at}
-use Rattle.usual.proofs.fits_place.Statement.{statement}
-use Rattle.usual.proofs.fits_place.Tie as tie
+use Rattle.stages.specs.Usual.{fitsByte}
+use Rattle.stages.proofs.Shape.{shape-at}
+use Rattle.stages.proofs.usual.fits_place.Statement.{statement}
+use Rattle.stages.proofs.usual.fits_place.Tie as tie
 
 hyphen : (k : tie.Joined1) → let p = k .before .args .place in (eqb p 4 || eqb p 7) ≡ true
 hyphen k = ⊎-elim (λ w. rw (eq-eqb _ 4 (w .taken))) (λ w. rw (ne-eqb _ 4 (w .0 .left)) (w .1 .taken)) (k .if1 .came)
