@@ -1,18 +1,19 @@
 -- The table of verbs by its numbers.
 use mathlib.Core.Path.{_≡_, refl, sym, _∙_}
 use mathlib.Core.Bool.{cond}
-use mathlib.Core.List.{List}
+use mathlib.Core.List.{List, [], _∷_}
 use Prim.Native.Nat.{ℕ, _≤_}
 use lib.ListN.{length, take, drop, List·getD-eq-default}
 use borrow.Author.Tests.{le-ltb}
-use Rattle.texts.specs.Texts.{bytes}
+use Rattle.texts.specs.Texts.{bytes, alike}
 use Rattle.bytes.specs.Bytes.{indexOf, indexAfter}
 use Rattle.words.specs.Words.{wordLength, fieldLength, fieldWord, restAt, wordAt}
 use Rattle.words.specs.Tables.{rowFrom}
-use Rattle.words.specs.Rows.{fits}
+use Rattle.words.specs.Places.{letters, fits, given}
 use Rattle.words.proofs.ByRow.{byRow, by-row}
+use Rattle.words.proofs.ByPlace.{by-place}
 use Rattle.answers.specs.Answers.{malformed}
-use Rattle.desk.specs.Verbs.{rows, answerOf, byVerb}
+use Rattle.desk.specs.Verbs.{Row, row, rows, answerOf, byVerb}
 use Rattle.desk.specs.Answers.{answerText}
 
 -- no verb has a number from there on
@@ -31,7 +32,17 @@ kinds = bytes " eiup. eiupUx. iu. eybbbbbu. eiui. eiui. eeiu. iuUu. iuUu. iuiu. 
 abbrev pub numbered : List ℕ → ℕ → List ℕ
 numbered s k = cond (fits (wordAt k kinds) s) (answerOf k s) malformed
 
-computed : (word s : List ℕ) → byRow (numbered s) 1 13 0 word verbs ≡ byVerb word s rows
+-- what is answered to a word, its row gone over by letters and places
+abbrev placed : List ℕ → List ℕ → List Row → List ℕ
+placed word s [] = malformed
+placed word s (row verb kinds answer ∷ rows) = cond (alike word (bytes verb)) (cond (fits (letters kinds) s) (given kinds answer 0 s) malformed) (placed word s rows)
+
+by-verb : (word s : List ℕ) (rows : List Row) → placed word s rows ≡ byVerb word s rows
+unfolding restAt
+by-verb word s [] = refl
+by-verb word s (row verb kinds answer ∷ rows) = rw (by-place kinds answer malformed 0 s, by-verb word s rows)
+
+computed : (word s : List ℕ) → byRow (numbered s) 1 13 0 word verbs ≡ placed word s rows
 unfolding byRow wordAt restAt fieldLength fieldWord wordLength indexOf indexAfter fits answerOf
 computed word s = refl
 
@@ -39,4 +50,4 @@ pub answer-by : (s : List ℕ) (k : ℕ) → length s ≤ 65535 → k ≡ rowFro
 unfolding answerText
 answer-by s k h e =
     let rest = drop (wordLength s) s in
-    rw (le-ltb 65535 (length s) h, e) (sym (by-row (numbered rest) 1 13 0 (take (wordLength s) s) verbs ∙ computed (take (wordLength s) s) rest))
+    rw (le-ltb 65535 (length s) h, e) (sym (by-row (numbered rest) 1 13 0 (take (wordLength s) s) verbs ∙ computed (take (wordLength s) s) rest ∙ by-verb (take (wordLength s) s) rest rows))

@@ -10,9 +10,10 @@ use Rattle.reader.specs.Stamp.{readText}
 use Rattle.printer.specs.Display.{timeText, displayed}
 use Rattle.texts.specs.Texts.{bytes, alike, natural, integer}
 use Rattle.texts.specs.Hex.{hexText}
-use Rattle.words.specs.Rows.{fits}
+use Rattle.words.specs.Kinds.{epoch, i64, i32, u64, u32, u8, precision, hex}
+use Rattle.words.specs.Rows.{Kinds, end, rest, _▸_, Answer, answerTo}
+use Rattle.words.specs.Places.{given}
 use Rattle.answers.specs.Answers.{line, timeLine, durationLine, orderText, malformed}
-use Rattle.entries.specs.Kinds.{epoch, i64, i32, u64, u32, u8, precision, hex, Kinds, end, rest, _▸_, letters, Answer, given}
 
 -- the answer with lent bytes, which stand last as they are then
 abbrev pub lentLine : Outcome ℕ × List ℕ → List ℕ
@@ -39,15 +40,14 @@ rows =
     ∷ row "read-hex" (epoch ▸ hex ▸ end) (λ start text. timeLine (readText 2147483647 start text))
     ∷ []
 
--- what a row answers to what stands behind its verb
-abbrev pub answerBy : Row → List ℕ → List ℕ
-answerBy (row verb kinds answer) s = given kinds answer 0 s
-
--- what the verb of a number answers
-unfoldable pub answerOf : ℕ → List ℕ → List ℕ
-answerOf k s = answerBy (getD rows k (row "" end malformed)) s
-
 -- what is answered to a word and what stands behind it
 abbrev pub byVerb : List ℕ → List ℕ → List Row → List ℕ
 byVerb word s [] = malformed
-byVerb word s (row verb kinds answer ∷ rows) = cond (alike word (bytes verb)) (cond (fits (letters kinds) s) (given kinds answer 0 s) malformed) (byVerb word s rows)
+byVerb word s (row verb kinds answer ∷ rows) = cond (alike word (bytes verb)) (answerTo kinds answer malformed s) (byVerb word s rows)
+
+-- for the code, which knows a verb by its number and has seen that the words are of its kinds
+abbrev pub answerBy : Row → List ℕ → List ℕ
+answerBy (row verb kinds answer) s = given kinds answer 0 s
+
+unfoldable pub answerOf : ℕ → List ℕ → List ℕ
+answerOf k s = answerBy (getD rows k (row "" end malformed)) s

@@ -11,11 +11,11 @@ use words::values::u64_at;
 use words::words::word_at;
 ghost use mathlib.Core.Path.{_≡_};
 ghost use Prim.Native.Nat.{_+_, _≤_};
-ghost use Rattle.words.specs.Numbers.{wholeAt, naturalAt};
-ghost use Rattle.entries.specs.Kinds.{epochAt, precisionAt};
+ghost use Rattle.words.specs.Kinds.{epoch, i64, u64, u32, precision};
+ghost use Rattle.words.specs.Places.{value};
 
 pub fn epoch_word(s: &[u8], i: usize) -> Epoch
-    ensures { λ r. ⌜ r .0 ≡ epochAt i (now (s .entry)) ⌝ }
+    ensures { λ r. ⌜ r .0 ≡ value epoch i (now (s .entry)) ⌝ }
 {
     match epoch_row(word_at(s, i)) {
         0 => Epoch::MONOTONIC_TIME,
@@ -30,8 +30,8 @@ pub fn epoch_word(s: &[u8], i: usize) -> Epoch
 
 pub fn time_at(s: &[u8], i: usize) -> TaiTime
     requires { ⌜ i ≤ 1000 ⌝ }
-    ensures { λ r. ⌜ r .secs ≡ wholeAt 9223372036854775807 i (now (s .entry)) ⌝ }
-    ensures { λ r. ⌜ r .nanos ≡ naturalAt 4294967295 (i + 1) (now (s .entry)) ⌝ }
+    ensures { λ r. ⌜ r .secs ≡ value i64 i (now (s .entry)) ⌝ }
+    ensures { λ r. ⌜ r .nanos ≡ value u32 (i + 1) (now (s .entry)) ⌝ }
 {
     TaiTime {
         secs: i64_at(s, i),
@@ -41,8 +41,8 @@ pub fn time_at(s: &[u8], i: usize) -> TaiTime
 
 pub fn duration_at(s: &[u8], i: usize) -> Duration
     requires { ⌜ i ≤ 1000 ⌝ }
-    ensures { λ r. ⌜ r .secs ≡ naturalAt 18446744073709551615 i (now (s .entry)) ⌝ }
-    ensures { λ r. ⌜ r .nanos ≡ naturalAt 4294967295 (i + 1) (now (s .entry)) ⌝ }
+    ensures { λ r. ⌜ r .secs ≡ value u64 i (now (s .entry)) ⌝ }
+    ensures { λ r. ⌜ r .nanos ≡ value u32 (i + 1) (now (s .entry)) ⌝ }
 {
     Duration {
         secs: u64_at(s, i),
@@ -52,7 +52,7 @@ pub fn duration_at(s: &[u8], i: usize) -> Duration
 
 // `-` for absent.
 pub fn precision_at(s: &[u8], i: usize) -> Precision
-    ensures { λ r. ⌜ r ≡ precisionAt i (now (s .entry)) ⌝ }
+    ensures { λ r. ⌜ r ≡ value precision i (now (s .entry)) ⌝ }
 {
     if same(word_at(s, i), b"-") {
         return Precision::Default;

@@ -1,12 +1,12 @@
 -- Rows and words, one field after the other.
 use mathlib.Core.Path.{_≡_, refl}
-use mathlib.Core.Bool.{true, false, and-eq-true-iff}
+use mathlib.Core.Bool.{true, false}
 use mathlib.Core.List.{List, [], _∷_}
-use Prim.Native.Nat.{ℕ, zero, suc, _<_}
+use Prim.Native.Nat.{ℕ, _<_}
 use native.Mathlib.Omega.{arith}
 use lib.ListN.{length, drop, getD}
-use Rattle.words.specs.Words.{fieldLength, restAt}
-use Rattle.words.specs.Rows.{good, fits}
+use Rattle.words.specs.Words.{fieldLength}
+use Rattle.words.specs.Places.{good, fits}
 
 pub fits-none : (row s : List ℕ) → length row ≡ 0 → true ≡ fits row s
 unfolding fits
@@ -22,10 +22,3 @@ pub fits-more : (row s : List ℕ) → 0 < length row → good (getD row 0 0) s 
 unfolding fits
 fits-more [] s h e = absurd (omega arith)
 fits-more (kind ∷ row) s h e = rw e
-
--- each word of a line that fits a row is of the kind at its place
-pub fits-good : (row s : List ℕ) (i : ℕ) → i < length row → fits row s ≡ true → good (getD row i 0) (restAt i s) ≡ true
-unfolding fits restAt
-fits-good [] s i h e = absurd (omega arith)
-fits-good (kind ∷ row) s zero h e = and-eq-true-iff (good kind s) _ .0 e .0
-fits-good (kind ∷ row) s (suc i) h e = fits-good row (drop (fieldLength s) s) i (omega arith) (and-eq-true-iff (good kind s) _ .0 e .1)

@@ -3,12 +3,11 @@ use mathlib.Core.Bool.{cond, _&&_}
 use mathlib.Core.List.{List}
 use Prim.Native.Nat.{ℕ, zero, suc, _+_}
 use lib.Dec.{ltb}
-use lib.IntN.{ℤ, pos, negsuc}
+use lib.IntN.{pos, negsuc}
 use lib.ListN.{length, drop}
 use Rattle.decimals.specs.Numbers.{beginsWith, digitsUpTo}
 use Rattle.decimals.specs.declared.Number.{Number}
 use Rattle.decimals.specs.declared.Number.the-variants as Number
-use Rattle.words.specs.Words.{wordAt}
 use Rattle.words.specs.declared.numbers.Signed.{Signed}
 use Rattle.words.specs.declared.numbers.Signed.the-variants.{Value, Bad}
 
@@ -30,18 +29,3 @@ below Number.Bad = Bad
 -- a number of a signed type from -top - 1 to top (`-` is 45)
 unfoldable pub signed : ℕ → List ℕ → Signed
 signed top s = cond (beginsWith 45 s) (below (unsigned (top + 1) (drop 1 s))) (above (unsigned top s))
-
--- ---- the words by their place, as numbers: 0 where the word is none of the kind
-abbrev pub orZero : Signed → ℤ
-orZero (Value v) = v
-orZero Bad = pos 0
-
-abbrev pub orNone : Number → ℕ
-orNone (Number.Value v) = v
-orNone Number.Bad = 0
-
-unfoldable pub wholeAt : ℕ → ℕ → List ℕ → ℤ
-wholeAt top i s = orZero (signed top (wordAt i s))
-
-unfoldable pub naturalAt : ℕ → ℕ → List ℕ → ℕ
-naturalAt limit i s = orNone (unsigned limit (wordAt i s))

@@ -12,10 +12,11 @@ use decimals::skip;
 use texts::hex::is_hex;
 use texts::same;
 ghost use mathlib.Core.Path.{_≡_};
-ghost use Rattle.words.specs.Rows.{isSigned, isNumber, good, fits};
+ghost use Rattle.words.specs.Kinds.{ofSigned, ofNumber};
+ghost use Rattle.words.specs.Places.{meaningful, good, fits};
 
 fn is_signed(x: Signed) -> bool
-    ensures { λ r. ⌜ r ≡ isSigned x ⌝ }
+    ensures { λ r. ⌜ r ≡ meaningful (ofSigned x) ⌝ }
 {
     match x {
         Signed::Value(_) => true,
@@ -24,7 +25,7 @@ fn is_signed(x: Signed) -> bool
 }
 
 fn is_number(x: Number) -> bool
-    ensures { λ r. ⌜ r ≡ isNumber x ⌝ }
+    ensures { λ r. ⌜ r ≡ meaningful (ofNumber x) ⌝ }
 {
     match x {
         Number::Value(_) => true,

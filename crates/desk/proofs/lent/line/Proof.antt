@@ -3,6 +3,7 @@ use mathlib.Core.Path.{ap}
 use native.Mathlib.Omega.{arith}
 use lib.ListN.{length, length-take}
 use borrow.Author.Needs.{needs}
+use Rattle.words.proofs.Meanings.{hex-value}
 use Rattle.words.proofs.Splits.{word-within}
 use Rattle.desk.specs.Verbs.{answerOf}
 use Rattle.desk.proofs.lent.line.Statement.{statement}
@@ -18,4 +19,4 @@ line-spec =
     (λ c. rw length-take (omega (arith, c .before .before .before .before .before .before .unhex .ensures .within)))
     (λ c κs. let e = ap length (c .before .before .before .before .before .before .before .before .before .word-at .ensures) in simp length-take (omega (arith, word-within 5 (c .before .before .before .before .before .before .before .before .before .before .before .before .args .s .now), c .before .before .before .before .before .before .before .unhex .ensures .half)))
     (λ c. search needs)
-    (λ c. let b = simp length-take at (c .before .before .before .print-in .ensures .1) in let e = ap length (c .before .before .before .before .before .before .before .before .before .before .before .before .before .word-at .ensures) in (rw (← c .before .before .before .before .before .before .before .epoch-word .ensures, ← c .before .before .before .before .before .before .before .before .before .time-at .ensures .0, ← c .before .before .before .before .before .before .before .before .before .time-at .ensures .1, ← c .before .before .before .before .before .before .precision-at .ensures, ← c .before .before .before .before .before .before .before .before .u64-at .ensures, ← c .before .before .before .before .before .before .before .before .before .before .before .before .before .word-at .ensures, ← c .before .before .before .before .before .before .before .before .before .before .before .unhex .ensures .front) (c .before .before .before .print-in .ensures .0), omega (arith, word-within 5 (c .before .before .before .before .before .before .before .before .before .before .before .before .before .before .before .before .args .s .now), c .before .before .before .before .before .before .before .before .before .before .before .unhex .ensures .half))))
+    (λ c. let b = simp length-take at (c .before .before .before .print-in .ensures .1) in let e = ap length (c .before .before .before .before .before .before .before .before .before .before .before .before .before .word-at .ensures) in (rw (← c .before .before .before .before .before .before .before .epoch-word .ensures, ← c .before .before .before .before .before .before .before .before .before .time-at .ensures .0, ← c .before .before .before .before .before .before .before .before .before .time-at .ensures .1, ← c .before .before .before .before .before .before .precision-at .ensures, ← c .before .before .before .before .before .before .before .before .u64-at .ensures, ← hex-value 5 _, ← c .before .before .before .before .before .before .before .before .before .before .before .before .before .word-at .ensures, ← c .before .before .before .before .before .before .before .before .before .before .before .unhex .ensures .front) (c .before .before .before .print-in .ensures .0), omega (arith, word-within 5 (c .before .before .before .before .before .before .before .before .before .before .before .before .before .before .before .before .args .s .now), c .before .before .before .before .before .before .before .before .before .before .before .unhex .ensures .half))))

@@ -3,6 +3,7 @@ use mathlib.Core.Path.{ap}
 use native.Mathlib.Omega.{arith}
 use lib.ListN.{length, length-take}
 use borrow.Author.Needs.{needs}
+use Rattle.words.proofs.Meanings.{hex-value}
 use Rattle.words.proofs.Splits.{word-within}
 use Rattle.desk.specs.Verbs.{answerOf}
 use Rattle.desk.proofs.verbs.read_hex.Statement.{statement}
@@ -17,4 +18,4 @@ read-hex-spec =
     (λ c. search needs)
     (λ c. rw length-take (omega (arith, c .before .before .unhex .ensures .within)))
     (λ c κs. search needs) (λ c κs. search needs) (λ c κs. search needs)
-    (λ c. rw (← c .before .before .epoch-word .ensures, ← c .before .before .before .before .before .before .before .word-at .ensures, ← c .before .before .before .before .before .unhex .ensures .front, ← c .before .from-str .ensures) (c .said-read .ensures)))
+    (λ c. rw (← c .before .before .epoch-word .ensures, ← hex-value 1 _, ← c .before .before .before .before .before .before .before .word-at .ensures, ← c .before .before .before .before .before .unhex .ensures .front, ← c .before .from-str .ensures) (c .said-read .ensures)))

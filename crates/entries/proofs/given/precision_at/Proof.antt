@@ -1,14 +1,17 @@
 -- `entries::given::precision_at`.
 use borrow.Author.Needs.{needs}
-use Rattle.entries.specs.Kinds.{precisionAt}
+use Rattle.words.specs.Numbers.{unsigned}
+use Rattle.words.specs.Kinds.{meaning}
+use Rattle.words.specs.Places.{value}
+use Rattle.words.proofs.Meanings.{digits-or-none}
 use Rattle.entries.proofs.given.precision_at.Statement.{statement}
 use Rattle.entries.proofs.given.precision_at.Tie as tie
 
 pub precision-at-spec : {M : Type 1} → statement M
-unfolding precisionAt
+unfolding meaning value
 precision-at-spec =
     tie.close (tie.spec
     (λ c κs. search needs) (λ c. search needs) (λ c κs. search needs)
     (λ c. rw (← c .before .before .before .word-at .ensures, ← c .before .same .ensures, c .if1 .taken))
     (λ c κs. search needs)
-    (λ c. rw (← c .before .before .before .before .word-at .ensures, ← c .before .before .same .ensures, c .before .if1 .left, c .u64-at .ensures)))
+    (λ c. rw (c .u64-at .ensures, ← c .before .before .before .before .word-at .ensures, ← c .before .before .same .ensures, c .before .if1 .left) (digits-or-none (unsigned 18446744073709551615 (c .before .before .before .before .word-at .result .now)))))

@@ -3,12 +3,10 @@ use mathlib.Core.Path.{sym, _∙_}
 use native.Mathlib.Omega.{arith}
 use Rattle.words.proofs.Decimal.{unsigned-small}
 use borrow.Author.Needs.{needs}
-use Rattle.words.specs.Numbers.{naturalAt}
 use Rattle.words.proofs.values.natural_at.Statement.{statement}
 use Rattle.words.proofs.values.natural_at.Tie as tie
 
 pub natural-at-spec : {M : Type 1} → statement M
-unfolding naturalAt
 natural-at-spec =
     tie.close (tie.spec
     (λ c κs. search needs) (λ c κs. search needs) (λ c. search needs) (λ c. search needs)
