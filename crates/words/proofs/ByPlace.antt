@@ -1,12 +1,10 @@
 -- A line by the letters of a row and the places of its words is answered as by what each word says.
-use mathlib.Core.Path.{_≡_, refl, sym, _∙_}
-use mathlib.Core.Bool.{Bool, true, false, cond, _&&_}
-use mathlib.Core.List.{List, []}
+use mathlib.Core.Path.{_≡_, refl}
+use mathlib.Core.Bool.{cond, _&&_, and-true}
+use mathlib.Core.List.{List}
 use Prim.Native.Nat.{ℕ, zero, suc, _+_}
 use native.Mathlib.Numerals.{unary-clauses}
-use lib.Dec.{eqb}
-use lib.ListN.{length, drop, getD}
-use Rattle.decimals.specs.Numbers.{beginsWith}
+use lib.ListN.{drop, getD}
 use Rattle.texts.specs.Texts.{alike}
 use Rattle.words.specs.Words.{fieldLength, fieldWord, restAt, wordAt}
 use Rattle.words.specs.Kinds.{Kind, epoch, i64, i32, u64, u32, u8, precision, hex, Value, Meaning, means, nothing, meaning}
@@ -29,14 +27,10 @@ good-kind u8 s = refl
 good-kind precision s = refl
 good-kind hex s = refl
 
-last : (b : Bool) (x other : List ℕ) → cond b x other ≡ cond (b && true) x other
-last true x other = refl
-last false x other = refl
-
 pub by-place : (kinds : Kinds) (answer : Answer kinds) (other : List ℕ) (i : ℕ) (s : List ℕ) → answerTo kinds answer other (restAt i s) ≡ cond (fits (letters kinds) (restAt i s)) (given kinds answer i s) other
-unfolding good alike fits value wordAt
-by-place end answer other i s = last (eqb (length (restAt i s)) 0) _ other
-by-place rest answer other i s = last (beginsWith 32 (restAt i s)) _ other
+unfolding good alike fits wordAt
+by-place end answer other i s = rw and-true
+by-place rest answer other i s = rw and-true
 by-place (kind ▸ kinds) answer other i s = rw (good-kind kind (restAt i s), ← rest-next i s) (go (λ v. by-place kinds (answer v) other (i + 1) s) _ (meaning kind (wordAt i s)))
   where
     next : List ℕ

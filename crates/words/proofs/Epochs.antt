@@ -11,7 +11,7 @@ use Rattle.bytes.specs.Bytes.{indexOf, indexAfter}
 use Rattle.words.specs.Words.{byWord, wordLength, fieldLength, fieldWord, restAt}
 use Rattle.words.specs.Numbers.{signed}
 use Rattle.words.specs.Tables.{epochRow}
-use Rattle.words.specs.Kinds.{epoch, i64, Meaning, ofSigned, epochs, meaning}
+use Rattle.words.specs.Kinds.{epoch, i64, Meaning, ofSigned, epochs, epochOf, meaning}
 use Rattle.words.specs.Places.{meaningful}
 use Rattle.words.proofs.ByRow.{byRow, by-row}
 
@@ -23,7 +23,7 @@ unfolding epochValues byRow restAt fieldLength fieldWord wordLength indexOf inde
 computedEpochs word z = refl
 
 pub epoch-by : (word : List ℕ) {k : ℕ} → k ≡ epochRow word → getD epochValues k (meaning i64 word) ≡ meaning epoch word
-unfolding epochRow meaning
+unfolding epochRow epochOf
 epoch-by word e = rw e (by-row (λ k. getD epochValues k (ofSigned (signed 9223372036854775807 word))) 1 6 0 word (bytes " monotonic gps gst bdt tai1958 tai1972") ∙ computedEpochs word _)
 
 pub no-name : (k : ℕ) (z : Meaning ℤ) → 6 ≤ k → getD epochValues k z ≡ z

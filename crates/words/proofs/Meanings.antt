@@ -8,7 +8,7 @@ use Rattle.decimals.specs.declared.Number.the-variants.{Value, Bad}
 use Rattle.printed_parts.specs.declared.Precision.the-variants.{Digits}
 use Rattle.texts.specs.Hex.{isHex, hexBytes}
 use Rattle.words.specs.Words.{wordAt}
-use Rattle.words.specs.Kinds.{hex, means, nothing, ofNumber, ofDigits, meaning}
+use Rattle.words.specs.Kinds.{hex, means, nothing, ofNumber, ofDigits, hexOf, meaning}
 use Rattle.words.specs.Places.{meaningful, orElse, value}
 
 pub digits-meant : (x : Number) → meaningful (ofNumber x) ≡ meaningful (ofDigits x)
@@ -20,7 +20,7 @@ digits-or-none (Value n) = refl
 digits-or-none Bad = refl
 
 pub hex-meant : (word : List ℕ) → isHex word ≡ meaningful (meaning hex word)
-unfolding meaning
+unfolding hexOf
 hex-meant word = go (isHex word)
   where
     go : (b : Bool) → b ≡ meaningful (cond b (means (hexBytes word)) nothing)
@@ -28,7 +28,7 @@ hex-meant word = go (isHex word)
     go false = refl
 
 pub hex-value : (i : ℕ) (s : List ℕ) → hexBytes (wordAt i s) ≡ value hex i s
-unfolding meaning value
+unfolding hexOf
 hex-value i s = go (isHex (wordAt i s))
   where
     go : (b : Bool) → hexBytes (wordAt i s) ≡ orElse (hexBytes (wordAt i s)) (cond b (means (hexBytes (wordAt i s))) nothing)

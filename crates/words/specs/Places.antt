@@ -62,7 +62,7 @@ other precision word = Digits 0
 other hex word = hexBytes word
 
 -- the word i as a value of a kind
-unfoldable pub value : (kind : Kind) → ℕ → List ℕ → Value kind
+abbrev pub value : (kind : Kind) → ℕ → List ℕ → Value kind
 value kind i s = orElse (other kind (wordAt i s)) (meaning kind (wordAt i s))
 
 -- the answer to the words from the place i on

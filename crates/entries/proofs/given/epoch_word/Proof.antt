@@ -6,14 +6,14 @@ use mir.Facts.{toZ-ofZ}
 use mir.Syntax.{w64}
 use mir.Val.{SFits}
 use borrow.Author.Needs.{needs}
-use Rattle.words.specs.Places.{orElse, value}
+use Rattle.words.specs.Places.{orElse}
 use Rattle.words.proofs.ByRow.{after}
 use Rattle.words.proofs.Epochs.{epochValues, epoch-by, no-name}
 use Rattle.entries.proofs.given.epoch_word.Statement.{statement}
 use Rattle.entries.proofs.given.epoch_word.Tie as tie
 
 pub epoch-word-spec : {M : Type 1} → statement M
-unfolding epochValues value
+unfolding epochValues
 epoch-word-spec =
     tie.close (tie.spec
     (λ c κs. search needs) (λ c κs. search needs) (λ c κs. search needs)

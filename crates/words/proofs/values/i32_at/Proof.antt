@@ -6,8 +6,6 @@ use mir.Syntax.{w32, w64}
 use mir.Val.{SFits}
 use borrow.Author.Needs.{needs}
 use Rattle.integers.proofs.Machine.{signed, known}
-use Rattle.words.specs.Kinds.{meaning}
-use Rattle.words.specs.Places.{value}
 use Rattle.words.proofs.Ranges.{signed-range}
 use Rattle.words.proofs.values.i32_at.Statement.{statement}
 use Rattle.words.proofs.values.i32_at.Tie as tie
@@ -16,7 +14,6 @@ cast-result : tie.Need-cast-result
 cast-result c = let f : SFits w64 (c .before .v .given .0 .0) = search needs in omega (arith, signed, known f, signed-range _ _ (sym (c .before .before .before .parse-signed .ensures) ∙ c .before .v .given .1))
 
 pub i32-at-spec : {M : Type 1} → statement M
-unfolding meaning value
 i32-at-spec =
     tie.close (tie.spec
     (λ c κs. search needs) (λ c κs. search needs) (λ c. search needs)

@@ -3,13 +3,10 @@ use mir.Facts.{toZ-ofZ}
 use mir.Syntax.{w64}
 use mir.Val.{SFits}
 use borrow.Author.Needs.{needs}
-use Rattle.words.specs.Kinds.{meaning}
-use Rattle.words.specs.Places.{value}
 use Rattle.words.proofs.values.i64_at.Statement.{statement}
 use Rattle.words.proofs.values.i64_at.Tie as tie
 
 pub i64-at-spec : {M : Type 1} → statement M
-unfolding meaning value
 i64-at-spec =
     tie.close (tie.spec
     (λ c κs. search needs) (λ c κs. search needs) (λ c. search needs) (λ c. search needs)
