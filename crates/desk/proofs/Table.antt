@@ -11,7 +11,7 @@ use Rattle.words.specs.Words.{wordLength, fieldLength, fieldWord, restAt, wordA
 use Rattle.words.specs.Tables.{rowFrom}
 use Rattle.words.specs.Places.{letters, fits, given}
 use Rattle.words.proofs.ByRow.{byRow, by-row}
-use Rattle.words.proofs.ByPlace.{by-place}
+use Rattle.words.proofs.Places.{by-place}
 use Rattle.answers.specs.Answers.{malformed}
 use Rattle.desk.specs.Verbs.{Row, row, rows, answerOf, byVerb}
 use Rattle.desk.specs.Answers.{answerText}

@@ -67,12 +67,6 @@ epochs =
 unfoldable pub epochOf : List ℕ → Meaning ℤ
 epochOf word = byWord word (ofSigned (signed 9223372036854775807 word)) epochs
 
-unfoldable pub precisionOf : List ℕ → Meaning Precision
-precisionOf word = cond (alike word (bytes "-")) (means Default) (ofDigits (unsigned 18446744073709551615 word))
-
-unfoldable pub hexOf : List ℕ → Meaning (List ℕ)
-hexOf word = cond (isHex word) (means (hexBytes word)) nothing
-
 -- what a word says as one of a kind
 abbrev pub meaning : (kind : Kind) → List ℕ → Meaning (Value kind)
 meaning epoch word = epochOf word
@@ -81,5 +75,5 @@ meaning i32 word = ofSigned (signed 2147483647 word)
 meaning u64 word = ofNumber (unsigned 18446744073709551615 word)
 meaning u32 word = ofNumber (unsigned 4294967295 word)
 meaning u8 word = ofNumber (unsigned 255 word)
-meaning precision word = precisionOf word
-meaning hex word = hexOf word
+meaning precision word = cond (alike word (bytes "-")) (means Default) (ofDigits (unsigned 18446744073709551615 word))
+meaning hex word = cond (isHex word) (means (hexBytes word)) nothing

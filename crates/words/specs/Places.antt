@@ -1,5 +1,5 @@
 -- A line as the code goes over it: the kinds of a row by their letters, and each word by its place. That it comes to the
--- same as `Rows.antt` is `by-place` (`proofs/ByPlace.antt`).
+-- same as `Rows.antt` is `by-place` (`proofs/Places.antt`).
 use mathlib.Core.Bool.{Bool, true, false, _&&_}
 use mathlib.Core.List.{List, [], _∷_}
 use Prim.Native.Nat.{ℕ, _+_}

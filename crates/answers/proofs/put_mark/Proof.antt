@@ -1,4 +1,3 @@
--- `answers::put_mark`.
 use native.Mathlib.Omega.{arith}
 use borrow.Author.Needs.{needs}
 use Rattle.texts.proofs.Puts.{put-none}

@@ -1,4 +1,3 @@
--- `answers::put_name`.
 use mathlib.Core.Path.{_≡_, ap}
 use native.Mathlib.Omega.{arith}
 use lib.ListN.{length}

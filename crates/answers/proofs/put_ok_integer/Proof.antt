@@ -1,4 +1,3 @@
--- `answers::put_ok_integer`.
 use native.Mathlib.Omega.{arith}
 use mir.Facts.{toZ-ofZ}
 use mir.Syntax.{w64}

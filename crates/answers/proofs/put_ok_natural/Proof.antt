@@ -1,4 +1,3 @@
--- `answers::put_ok_natural`.
 use native.Mathlib.Omega.{arith}
 use borrow.Author.Needs.{needs}
 use Rattle.texts.proofs.Puts.{put-on}

@@ -1,4 +1,3 @@
--- `answers::put_ok_word`.
 use mathlib.Core.Path.{ap}
 use native.Mathlib.Omega.{arith}
 use lib.ListN.{length}

@@ -1,4 +1,3 @@
--- `answers::put_said`.
 use native.Mathlib.Omega.{arith}
 use mir.Facts.{toZ-ofZ}
 use mir.Syntax.{w64}

@@ -1,4 +1,3 @@
--- `texts::put_behind_blank`.
 use mathlib.Core.Path.{_∙_}
 use native.Mathlib.Omega.{arith}
 use lib.ListN.{length-set}

@@ -1,4 +1,3 @@
--- `texts::put_integer`.
 use mathlib.Core.Path.{_∙_}
 use native.Mathlib.Omega.{arith}
 use lib.ListN.{length-set}

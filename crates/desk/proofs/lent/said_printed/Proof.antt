@@ -1,4 +1,3 @@
--- `desk::lent::said_printed`.
 use borrow.Author.Needs.{needs}
 use Rattle.desk.proofs.lent.said_printed.Statement.{statement}
 use Rattle.desk.proofs.lent.said_printed.Tie as tie

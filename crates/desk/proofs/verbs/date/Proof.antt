@@ -1,4 +1,3 @@
--- `desk::verbs::date`.
 use mathlib.Core.Path.{ap, _∙_}
 use mir.Facts.{toZ-ofZ}
 use mir.Syntax.{w32}

@@ -3,7 +3,7 @@ use mathlib.Core.Path.{ap}
 use native.Mathlib.Omega.{arith}
 use lib.ListN.{length, length-take}
 use borrow.Author.Needs.{needs}
-use Rattle.words.proofs.Meanings.{hex-value}
+use Rattle.words.proofs.Places.{hex-value}
 use Rattle.words.proofs.Splits.{word-within}
 use Rattle.desk.specs.Verbs.{answerOf}
 use Rattle.desk.proofs.verbs.read_hex.Statement.{statement}

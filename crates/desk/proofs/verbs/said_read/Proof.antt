@@ -1,4 +1,3 @@
--- `desk::verbs::said_read`.
 use mir.Facts.{toZ-ofZ}
 use mir.Syntax.{w64}
 use mir.Val.{SFits}

@@ -1,13 +1,10 @@
--- `entries::given::precision_at`.
 use borrow.Author.Needs.{needs}
 use Rattle.words.specs.Numbers.{unsigned}
-use Rattle.words.specs.Kinds.{precisionOf}
-use Rattle.words.proofs.Meanings.{digits-or-none}
+use Rattle.words.proofs.Places.{digits-or-none}
 use Rattle.entries.proofs.given.precision_at.Statement.{statement}
 use Rattle.entries.proofs.given.precision_at.Tie as tie
 
 pub precision-at-spec : {M : Type 1} → statement M
-unfolding precisionOf
 precision-at-spec =
     tie.close (tie.spec
     (λ c κs. search needs) (λ c. search needs) (λ c κs. search needs)

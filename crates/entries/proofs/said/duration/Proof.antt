@@ -1,4 +1,3 @@
--- `entries::said::duration`.
 use borrow.Author.Needs.{needs}
 use Rattle.entries.proofs.said.duration.Statement.{statement}
 use Rattle.entries.proofs.said.duration.Tie as tie

@@ -1,4 +1,3 @@
--- `entries::said::ordering`.
 use borrow.Author.Needs.{needs}
 use Rattle.bytes.specs.Bytes.{indexOf, indexAfter}
 use Rattle.words.specs.Words.{wordLength, fieldLength, fieldWord, restAt, wordAt}

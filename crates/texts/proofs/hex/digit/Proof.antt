@@ -1,4 +1,3 @@
--- `texts::hex::digit`.
 use borrow.Author.Needs.{needs}
 use Rattle.texts.proofs.hex.digit.Statement.{statement}
 use Rattle.texts.proofs.hex.digit.Tie as tie

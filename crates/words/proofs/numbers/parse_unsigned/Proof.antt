@@ -1,4 +1,3 @@
--- `words::numbers::parse_unsigned`.
 use mathlib.Core.Bool.{false, and-false}
 use mathlib.Core.Path.{_≡_, sym, _∙_}
 use mathlib.Core.Logic.{⊎-elim}

@@ -7,7 +7,7 @@ use borrow.Author.Needs.{needs}
 use borrow.Author.Tests.{not-true, not-false}
 use borrow.Fn.PlainCycle.{Measures, is, falls, and}
 use Rattle.decimals.proofs.skip.Reads as skip
-use Rattle.words.proofs.Fitting.{fits-none, fits-not, fits-more}
+use Rattle.words.proofs.Places.{fits-none, fits-not, fits-more}
 use Rattle.words.proofs.words.field_length.Reads as field-length
 use Rattle.words.proofs.rows.is_good.Reads as is-good
 use Rattle.words.proofs.rows.row_fits.Reads as reads

@@ -1,17 +1,15 @@
--- `words::rows::is_good`.
 use mathlib.Core.Path.{sym, _∙_}
 use borrow.Author.Needs.{needs}
 use borrow.Author.Tests.{ne-eqb, lt-ltb}
 use Rattle.texts.specs.Texts.{alike}
-use Rattle.words.specs.Kinds.{precisionOf}
 use Rattle.words.specs.Places.{good}
 use Rattle.words.proofs.Epochs.{epoch-by, named, no-name}
-use Rattle.words.proofs.Meanings.{digits-meant, hex-meant}
+use Rattle.words.proofs.Places.{digits-meant, hex-meant}
 use Rattle.words.proofs.rows.is_good.Statement.{statement}
 use Rattle.words.proofs.rows.is_good.Tie as tie
 
 pub is-good-spec : {M : Type 1} → statement M
-unfolding good alike precisionOf
+unfolding good alike
 is-good-spec =
     tie.close (tie.spec
     (λ c κs. search needs) (λ c κs. search needs) (λ c κs. search needs) (λ c κs. search needs) (λ c κs. search needs) (λ c κs. search needs)

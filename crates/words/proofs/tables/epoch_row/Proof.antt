@@ -1,4 +1,3 @@
--- `words::tables::epoch_row`.
 use borrow.Author.Needs.{needs}
 use Rattle.words.specs.Tables.{epochRow}
 use Rattle.words.proofs.tables.epoch_row.Statement.{statement}

@@ -1,4 +1,3 @@
--- `words::values::natural_at`.
 use mathlib.Core.Path.{sym, _∙_}
 use native.Mathlib.Omega.{arith}
 use Rattle.words.proofs.Decimal.{unsigned-small}

@@ -1,4 +1,3 @@
--- `words::words::field_word`.
 use mathlib.Core.Path.{_≡_}
 use Prim.Native.Nat.{_-_}
 use native.Mathlib.Omega.{arith}

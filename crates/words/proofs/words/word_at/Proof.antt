@@ -1,4 +1,3 @@
--- `words::words::word_at`.
 use borrow.Author.Needs.{needs}
 use Rattle.words.specs.Words.{wordAt}
 use Rattle.words.proofs.words.word_at.Statement.{statement}
