@@ -35,12 +35,12 @@ numbered s k = cond (fits (wordAt k kinds) s) (answerOf k s) malformed
 -- what is answered to a word, its row gone over by letters and places
 abbrev placed : List ℕ → List ℕ → List Row → List ℕ
 placed word s [] = malformed
-placed word s (row verb kinds answer ∷ rows) = cond (alike word (bytes verb)) (cond (fits (letters kinds) s) (given kinds answer 0 s) malformed) (placed word s rows)
+placed word s (row verb asks answer ∷ more) = cond (alike word (bytes verb)) (cond (fits (letters asks) s) (given asks answer 0 s) malformed) (placed word s more)
 
-by-verb : (word s : List ℕ) (rows : List Row) → placed word s rows ≡ byVerb word s rows
+by-verb : (word s : List ℕ) (table : List Row) → placed word s table ≡ byVerb word s table
 unfolding restAt
 by-verb word s [] = refl
-by-verb word s (row verb kinds answer ∷ rows) = rw (by-place kinds answer malformed 0 s, by-verb word s rows)
+by-verb word s (row verb asks answer ∷ more) = rw (by-place asks answer malformed 0 s, by-verb word s more)
 
 computed : (word s : List ℕ) → byRow (numbered s) 1 13 0 word verbs ≡ placed word s rows
 unfolding byRow wordAt restAt fieldLength fieldWord wordLength indexOf indexAfter fits answerOf

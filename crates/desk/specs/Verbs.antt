@@ -45,9 +45,10 @@ abbrev pub byVerb : List ℕ → List ℕ → List Row → List ℕ
 byVerb word s [] = malformed
 byVerb word s (row verb kinds answer ∷ rows) = cond (alike word (bytes verb)) (answerTo kinds answer malformed s) (byVerb word s rows)
 
--- for the code, which knows a verb by its number and has seen that the words are of its kinds
+-- for the code, which has seen that the words are of the row's kinds
 abbrev pub answerBy : Row → List ℕ → List ℕ
 answerBy (row verb kinds answer) s = given kinds answer 0 s
 
+-- and knows the row by its number
 unfoldable pub answerOf : ℕ → List ℕ → List ℕ
 answerOf k s = answerBy (getD rows k (row "" end malformed)) s

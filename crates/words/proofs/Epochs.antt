@@ -1,30 +1,24 @@
 -- The epochs by their numbers.
-use mathlib.Core.Path.{_≡_, refl, _∙_}
+use mathlib.Core.Path.{_≡_, refl}
 use mathlib.Core.Bool.{true}
 use mathlib.Core.List.{List, map}
 use Prim.Native.Nat.{ℕ, zero, suc, _<_, _≤_}
 use native.Mathlib.Omega.{arith}
 use lib.IntN.{ℤ}
 use lib.ListN.{getD, List·getD-eq-default}
-use Rattle.texts.specs.Texts.{bytes}
 use Rattle.bytes.specs.Bytes.{indexOf, indexAfter}
-use Rattle.words.specs.Words.{byWord, wordLength, fieldLength, fieldWord, restAt}
-use Rattle.words.specs.Numbers.{signed}
-use Rattle.words.specs.Tables.{epochRow}
-use Rattle.words.specs.Kinds.{epoch, i64, Meaning, ofSigned, epochs, epochOf, meaning}
+use Rattle.words.specs.Words.{wordLength, fieldLength, fieldWord, restAt}
+use Rattle.words.specs.Tables.{epochNames, epochRow}
+use Rattle.words.specs.Kinds.{epoch, i64, Meaning, epochs, epochOf, meaning}
 use Rattle.words.specs.Places.{meaningful}
 use Rattle.words.proofs.ByRow.{byRow, by-row}
 
 unfoldable pub epochValues : List (Meaning ℤ)
 epochValues = map (λ row. row .1) epochs
 
-computedEpochs : (word : List ℕ) (z : Meaning ℤ) → byRow (λ k. getD epochValues k z) 1 6 0 word (bytes " monotonic gps gst bdt tai1958 tai1972") ≡ byWord word z epochs
-unfolding epochValues byRow restAt fieldLength fieldWord wordLength indexOf indexAfter
-computedEpochs word z = refl
-
 pub epoch-by : (word : List ℕ) {k : ℕ} → k ≡ epochRow word → getD epochValues k (meaning i64 word) ≡ meaning epoch word
-unfolding epochRow epochOf
-epoch-by word e = rw e (by-row (λ k. getD epochValues k (ofSigned (signed 9223372036854775807 word))) 1 6 0 word (bytes " monotonic gps gst bdt tai1958 tai1972") ∙ computedEpochs word _)
+unfolding epochRow epochOf epochValues byRow restAt fieldLength fieldWord wordLength indexOf indexAfter
+epoch-by word e = rw e (by-row (λ k. getD epochValues k (meaning i64 word)) 1 6 0 word epochNames)
 
 pub no-name : (k : ℕ) (z : Meaning ℤ) → 6 ≤ k → getD epochValues k z ≡ z
 unfolding epochValues

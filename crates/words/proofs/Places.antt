@@ -6,13 +6,15 @@ use Prim.Native.Nat.{ℕ, zero, suc, _+_, _<_}
 use native.Mathlib.Numerals.{unary-clauses}
 use native.Mathlib.Omega.{arith}
 use lib.ListN.{length, drop, getD}
+use Rattle.decimals.specs.Numbers.{beginsWith, digitsUpTo}
 use Rattle.decimals.specs.declared.Number.{Number}
 use Rattle.decimals.specs.declared.Number.the-variants as Number
 use Rattle.printed_parts.specs.declared.Precision.the-variants.{Digits}
 use Rattle.texts.specs.Texts.{alike}
 use Rattle.texts.specs.Hex.{isHex, hexBytes}
 use Rattle.words.specs.Words.{fieldLength, fieldWord, restAt, wordAt}
-use Rattle.words.specs.Kinds.{Kind, epoch, i64, i32, u64, u32, u8, precision, hex, Value, Meaning, means, nothing, ofNumber, ofDigits, meaning}
+use Rattle.words.specs.Numbers.{unsigned, signed}
+use Rattle.words.specs.Kinds.{Kind, epoch, i64, i32, u64, u32, u8, precision, hex, Value, Meaning, means, nothing, ofNumber, ofDigits, epochOf, meaning}
 use Rattle.words.specs.Rows.{Kinds, end, rest, _▸_, Answer, whenMeant, answerTo}
 use Rattle.words.specs.Places.{meaningful, letters, good, fits, orElse, value, given}
 
@@ -62,22 +64,25 @@ unfolding restAt
 rest-next zero s = refl
 rest-next (suc i) s = simp unary-clauses (simp unary-clauses at (rest-next i (drop (fieldLength s) s)))
 
-good-kind : (kind : Kind) (s : List ℕ) → good (getD (letters (kind ▸ end)) 0 0) s ≡ meaningful (meaning kind (fieldWord s))
-unfolding good alike
-good-kind epoch s = refl
-good-kind i64 s = refl
-good-kind i32 s = refl
-good-kind u64 s = refl
-good-kind u32 s = refl
-good-kind u8 s = refl
-good-kind precision s = refl
-good-kind hex s = refl
+of-kind : (kind : Kind) (s : List ℕ) → (good (getD (letters (kind ▸ end)) 0 0) s ≡ meaningful (meaning kind (fieldWord s))) × (meaning kind [] ≡ nothing)
+unfolding good alike epochOf signed unsigned beginsWith digitsUpTo isHex
+of-kind epoch s = (refl, refl)
+of-kind i64 s = (refl, refl)
+of-kind i32 s = (refl, refl)
+of-kind u64 s = (refl, refl)
+of-kind u32 s = (refl, refl)
+of-kind u8 s = (refl, refl)
+of-kind precision s = (refl, refl)
+of-kind hex s = (refl, refl)
+
+pub no-empty-word : (kind : Kind) → meaning kind [] ≡ nothing
+no-empty-word kind = of-kind kind [] .1
 
 pub by-place : (kinds : Kinds) (answer : Answer kinds) (other : List ℕ) (i : ℕ) (s : List ℕ) → answerTo kinds answer other (restAt i s) ≡ cond (fits (letters kinds) (restAt i s)) (given kinds answer i s) other
 unfolding good alike fits wordAt
 by-place end answer other i s = rw and-true
 by-place rest answer other i s = rw and-true
-by-place (kind ▸ kinds) answer other i s = rw (good-kind kind (restAt i s), ← rest-next i s) (go (λ v. by-place kinds (answer v) other (i + 1) s) _ (meaning kind (wordAt i s)))
+by-place (kind ▸ kinds) answer other i s = rw (of-kind kind (restAt i s) .0, ← rest-next i s) (go (λ v. by-place kinds (answer v) other (i + 1) s) _ (meaning kind (wordAt i s)))
   where
     next : List ℕ
     next = restAt (i + 1) s

@@ -64,6 +64,7 @@ epochs =
     ∷ ("tai1972", means (pos 63072000))
     ∷ []
 
+-- an i64, or a name
 unfoldable pub epochOf : List ℕ → Meaning ℤ
 epochOf word = byWord word (ofSigned (signed 9223372036854775807 word)) epochs
 

@@ -46,24 +46,24 @@ unfoldable pub fits : List ℕ → List ℕ → Bool
 fits [] s = true
 fits (x ∷ row) s = good x s && fits row (drop (fieldLength s) s)
 
--- what a word says, or what the code takes where it means nothing
+-- what a word says, or what the code takes where it says nothing
 abbrev pub orElse : {A : Type 0} → A → Meaning A → A
 orElse other (means v) = v
 orElse other nothing = other
 
-abbrev other : (kind : Kind) → List ℕ → Value kind
-other epoch word = pos 0
-other i64 word = pos 0
-other i32 word = pos 0
-other u64 word = 0
-other u32 word = 0
-other u8 word = 0
-other precision word = Digits 0
-other hex word = hexBytes word
+abbrev whereNothing : (kind : Kind) → List ℕ → Value kind
+whereNothing epoch word = pos 0
+whereNothing i64 word = pos 0
+whereNothing i32 word = pos 0
+whereNothing u64 word = 0
+whereNothing u32 word = 0
+whereNothing u8 word = 0
+whereNothing precision word = Digits 0
+whereNothing hex word = hexBytes word
 
 -- the word i as a value of a kind
 abbrev pub value : (kind : Kind) → ℕ → List ℕ → Value kind
-value kind i s = orElse (other kind (wordAt i s)) (meaning kind (wordAt i s))
+value kind i s = orElse (whereNothing kind (wordAt i s)) (meaning kind (wordAt i s))
 
 -- the answer to the words from the place i on
 abbrev pub given : (kinds : Kinds) → Answer kinds → ℕ → List ℕ → List ℕ

@@ -21,12 +21,13 @@ Answer end = List ℕ
 Answer rest = List ℕ → List ℕ
 Answer (kind ▸ kinds) = Value kind → Answer kinds
 
--- what is made of what a word says, or another answer where it means nothing
+-- what is made of what a word says, or another answer where it says nothing
 abbrev pub whenMeant : {A : Type 0} → Meaning A → (A → List ℕ) → List ℕ → List ℕ
 whenMeant (means v) answer other = answer v
 whenMeant nothing answer other = other
 
--- the answer to a line (32 is the blank); another one where the line is not of these kinds
+-- the answer to a line (32 is the blank); another one where the line is not of these kinds. Where no word is left the
+-- empty one is asked, which says nothing (`no-empty-word` in `proofs/Places.antt`).
 abbrev pub answerTo : (kinds : Kinds) → Answer kinds → List ℕ → List ℕ → List ℕ
 answerTo end answer other s = cond (eqb (length s) 0) answer other
 answerTo rest answer other s = cond (beginsWith 32 s) (answer (drop 1 s)) other

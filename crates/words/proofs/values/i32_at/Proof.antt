@@ -1,4 +1,3 @@
--- `words::values::i32_at`.
 use mathlib.Core.Path.{sym, _∙_}
 use native.Mathlib.Omega.{arith}
 use mir.Facts.{toZ-ofZ}

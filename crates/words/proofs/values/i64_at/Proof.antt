@@ -1,4 +1,3 @@
--- `words::values::i64_at`.
 use mir.Facts.{toZ-ofZ}
 use mir.Syntax.{w64}
 use mir.Val.{SFits}
