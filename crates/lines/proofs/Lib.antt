@@ -1,3 +1,4 @@
 pub mod Cuts
+pub mod Moves
 pub mod Turns
 pub mod Pieces

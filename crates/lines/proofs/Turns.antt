@@ -1,121 +1,92 @@
 -- The turns over the bytes of an input: nothing done, a line passed over, a line answered, and one turn after another.
-use mathlib.Core.Path.{_≡_, refl, sym, ap, _∙_}
+use mathlib.Core.Path.{_≡_, refl, sym, _∙_}
 use mathlib.Core.Bool.{Bool, true, false, cond, or-true}
 use mathlib.Core.List.{List, [], _∷_, _++_, append-nil, append-assoc}
-use mathlib.Core.Logic.{_⊎_, inl, inr, ⊎-elim}
+use mathlib.Core.Logic.{_⊎_, inl, inr}
 use Prim.Native.Nat.{ℕ, _+_, _-_, _<_, _≤_, min}
 use native.Mathlib.Omega.{arith}
 use lib.Dec.{ltb}
 use lib.ListN.{length, take, drop, length-take, length-drop, length-append, drop-of-length-le}
-use lib.Seq.{length-take-le, take-all, take-add, take-at, drop-at, drop-drop, take-append-seam, drop-append-seam}
+use lib.Seq.{length-take-le, take-all, take-add, take-at, drop-at, drop-drop}
 use borrow.Rule.Slice.PartMut.{midOf, putMid, same-len-mid}
 use borrow.Author.Tests.{le-ltb, ltb-true, ltb-false, eqb-true}
 use Rattle.bytes.specs.Bytes.{indexOf}
-use Rattle.desk.specs.Answers.{answerText, answered}
-use Rattle.desk.proofs.Answered.{answered-front, answered-none, answer-too-long, answered-fits}
-use Rattle.pending.specs.Pending.{lines, input, ready}
-use Rattle.pending.proofs.Cuts.{first, goesOn, used, first-line, first-long, ready-some, index-le, used-some}
-use Rattle.lines.specs.Lines.{Done, Turn}
+use Rattle.lines.specs.Lines.{lines, input, ready, goesOn, firstOf, Done, Turn}
 use Rattle.lines.specs.declared.Answered.{Answered}
-use Rattle.lines.proofs.Cuts.{pass, answers-first}
+use Rattle.lines.proofs.Cuts.{first, used, first-line, first-long, ready-some, index-le, used-some, pass, answers-first}
 
-module _ (s : List ℕ) (within ended : Bool) (out : List ℕ) where
-  pub done-nothing : Done s within ended out out (record { used = 0; written = 0; within = within })
+module _ (answer : List ℕ → List ℕ) (s : List ℕ) (within ended : Bool) (out : List ℕ) where
+  pub done-nothing : Done answer s within ended out out (record { used = 0; written = 0; within = within })
   done-nothing = record { same = λ later. refl; usedFits = omega arith; writtenFits = omega arith; behind = refl }
 
-  turn-left : (ready ended s ≡ true → min (indexOf 10 s) 65536 + 128 ≤ length out → ⊥)
-      → Turn s within ended out out (record { used = 0; written = 0; within = within })
+  -- nothing is done where a line that can be answered has no room
+  pub turn-left : (ready ended s ≡ true → min (indexOf 10 s) 65536 + 128 ≤ length out → ⊥)
+      → Turn answer s within ended out out (record { used = 0; written = 0; within = within })
   turn-left h = record { done = done-nothing; progress = λ e k. absurd (h e k) }
 
-  -- no line can be answered
-  pub turn-waiting : ready ended s ≡ false → Turn s within ended out out (record { used = 0; written = 0; within = within })
+  -- or where no line can be answered
+  pub turn-waiting : ready ended s ≡ false → Turn answer s within ended out out (record { used = 0; written = 0; within = within })
   turn-waiting h = turn-left (λ e _. let z : _≡_ {A = ℕ} 0 1 = cc in omega arith)
 
-module _ (s : List ℕ) (ended : Bool) (out : List ℕ) where
-  pub turn-passed : Turn s true ended out out (record { used = used s; written = 0; within = goesOn s })
+module _ (answer : List ℕ → List ℕ) (s : List ℕ) (ended : Bool) (out : List ℕ) where
+  pub turn-passed : Turn answer s true ended out out (record { used = used s; written = 0; within = goesOn s })
   turn-passed =
       record {
-        done = record { same = λ later. pass (cond ended [] later) s; usedFits = used-some s .0; writtenFits = omega arith; behind = refl };
+        done = record { same = λ later. pass answer (cond ended [] later) s; usedFits = used-some s .0; writtenFits = omega arith; behind = refl };
         progress = λ e k. used-some s .1 (ready-some ended s e);
       }
 
--- the answer to the first line is decided on its first n bytes: on all of them, or on more than a request may have
-line-text : (s later : List ℕ) (ended : Bool) (n : ℕ) → ready ended s ≡ true → n ≤ indexOf 10 s → (65535 < n) ⊎ (n ≡ indexOf 10 s)
-    → answerText (first (lines (input ended s later))) ≡ answerText (take n s)
-unfolding ready
-line-text s later ended n e h enough = at (ltb 65535 n) refl
-  where
-    t : List ℕ
-    t = cond ended [] later
-
-    known : (b c : Bool) → ended ≡ b → goesOn s ≡ c → indexOf 10 s ≤ 65535 → (goesOn s ≡ false) ⊎ (t ≡ [])
-    known true c d k m = inr (rw d)
-    known false false d k m = inl k
-    known false true d k m =
-        let q : indexOf 10 s ≡ length s = eqb-true _ _ k in
-        let l = rw (d, le-ltb (indexOf 10 s) (length s) (omega arith), le-ltb 65535 (length s) (omega arith)) at e in
-        let z : _≡_ {A = ℕ} 0 1 = cc in absurd (omega arith)
-
-    at : (b : Bool) → ltb 65535 n ≡ b → answerText (first (lines (s ++ t))) ≡ answerText (take n s)
-    at true k =
-        let m : 65535 < n = ltb-true _ _ k in
-        answer-too-long (first (lines (s ++ t))) (omega (arith, first-long t s))
-        ∙ sym (answer-too-long (take n s) (rw length-take (omega (arith, index-le s))))
-    at false k =
-        let m : n ≤ 65535 = ltb-false _ _ k in
-        let q : n ≡ indexOf 10 s = ⊎-elim (λ l. absurd (omega arith)) (λ l. l) enough in
-        rw (q, first-line t s (known ended (goesOn s) refl refl (omega arith)))
-
 -- what an answer wrote
-record Wrote (s out : List ℕ) (w : ℕ) (out′ : List ℕ) : Type 0 where
-  text : take w out′ ≡ answerText s ++ (10 ∷ [])
-  behind : drop w out′ ≡ drop w out
-  some : 0 < w
+pub record Wrote (text out : List ℕ) (w : ℕ) (out′ : List ℕ) : Type 0 where
+  pub front : take w out′ ≡ text ++ (10 ∷ [])
+  pub behind : drop w out′ ≡ drop w out
+  pub fits : w ≤ length out
 
-wrote : (s out : List ℕ) {w : ℕ} {out′ : List ℕ} → (w, out′) ≡ answered s out → length s + 128 ≤ length out → Wrote s out w out′
-wrote s out {w} {out′} e h =
-    let k = e ∙ answered-front s out h in
-    let a : w ≡ length (answerText s ++ (10 ∷ [])) = ap (λ (x : ℕ × List ℕ). x .0) k in
-    let b : out′ ≡ (answerText s ++ (10 ∷ [])) ++ drop (length (answerText s ++ (10 ∷ []))) out = ap (λ (x : ℕ × List ℕ). x .1) k in
-    record { text = rw (a, b, take-append-seam); behind = rw (a, b, drop-append-seam); some = rw (a, length-append) (omega arith) }
-
-module _ (s : List ℕ) (ended : Bool) (out : List ℕ) (n : ℕ) {w : ℕ} {out′ : List ℕ} (answer : (w, out′) ≡ answered (take n s) out) where
-  -- the answer has no room
-  pub turn-full : (0 < w → ⊥) → n ≤ min (indexOf 10 s) 65536 → Turn s false ended out out′ (record { used = 0; written = 0; within = false })
-  turn-full e h = at (ltb (length out) (length (take n s) + 128)) refl
+-- lines that are too long for a request have one answer
+module _ (answer : List ℕ → List ℕ) (too-long : (s t : List ℕ) → 65535 < length s → 65535 < length t → answer s ≡ answer t) where
+  -- so the bytes that decide the answer to the first line are enough
+  line-text : (s later : List ℕ) (ended : Bool) → ready ended s ≡ true
+      → answer (first (lines (input ended s later))) ≡ answer (take (firstOf ended s .length) s)
+  unfolding ready
+  line-text s later ended e = at (ltb 65535 (indexOf 10 s)) refl
     where
-      at : (b : Bool) → ltb (length out) (length (take n s) + 128) ≡ b
-          → Turn s false ended out out′ (record { used = 0; written = 0; within = false })
-      at true k =
-          let m : length out < length (take n s) + 128 = ltb-true _ _ k in
-          rw (ap (λ (x : ℕ × List ℕ). x .1) (answer ∙ answered-none (take n s) out m))
-          (turn-left s false ended out (λ _ room. omega (arith, length-take n s)))
-      at false k = absurd (e (wrote (take n s) out answer (ltb-false _ _ k) .some))
+      t : List ℕ
+      t = cond ended [] later
 
-  pub turn-answered : 0 < w → length out′ ≡ length out → ready ended s ≡ true
-      → n ≤ indexOf 10 s → (65535 < n) ⊎ (n ≡ indexOf 10 s)
-      → Turn s false ended out out′ (record { used = used s; written = w; within = goesOn s })
-  turn-answered some kept e h enough =
+      known : (b c : Bool) → ended ≡ b → goesOn s ≡ c → indexOf 10 s ≤ 65535 → (goesOn s ≡ false) ⊎ (t ≡ [])
+      known true c d k m = inr (rw d)
+      known false false d k m = inl k
+      known false true d k m =
+          let q : indexOf 10 s ≡ length s = eqb-true _ _ k in
+          let l = rw (d, le-ltb (indexOf 10 s) (length s) (omega arith), le-ltb 65535 (length s) (omega arith)) at e in
+          let z : _≡_ {A = ℕ} 0 1 = cc in absurd (omega arith)
+
+      at : (b : Bool) → ltb 65535 (indexOf 10 s) ≡ b → answer (first (lines (s ++ t))) ≡ answer (take (min (indexOf 10 s) 65536) s)
+      at true k =
+          let m : 65535 < indexOf 10 s = ltb-true _ _ k in
+          too-long _ _ (omega (arith, first-long t s)) (rw length-take (omega (arith, index-le s)))
+      at false k =
+          let m : indexOf 10 s ≤ 65535 = ltb-false _ _ k in
+          let q : min (indexOf 10 s) 65536 ≡ indexOf 10 s = omega arith in
+          rw (q, first-line t s (known ended (goesOn s) refl refl m))
+
+  pub turn-answered : (s : List ℕ) (ended : Bool) {out out′ : List ℕ} {w : ℕ} → ready ended s ≡ true
+      → Wrote (answer (take (firstOf ended s .length) s)) out w out′
+      → Turn answer s false ended out out′ (record { used = used s; written = w; within = goesOn s })
+  turn-answered s ended e wrote =
       record {
         done =
             record {
               same =
                   λ later.
-                  answers-first (input ended s later) (rw length-append (omega (arith, ready-some ended s e)))
-                  ∙ rw (line-text s later ended n e h enough, pass (cond ended [] later) s, text .text, append-assoc);
+                  answers-first answer (input ended s later) (rw length-append (omega (arith, ready-some ended s e)))
+                  ∙ rw (line-text s later ended e, pass answer (cond ended [] later) s, wrote .front, append-assoc);
               usedFits = used-some s .0;
-              writtenFits = answered-fits (take n s) out answer kept;
-              behind = text .behind;
+              writtenFits = wrote .fits;
+              behind = wrote .behind;
             };
         progress = λ _ _. used-some s .1 (ready-some ended s e);
       }
-    where
-      text : Wrote (take n s) out w out′
-      text = at (ltb (length out) (length (take n s) + 128)) refl
-        where
-          at : (b : Bool) → ltb (length out) (length (take n s) + 128) ≡ b → Wrote (take n s) out w out′
-          at true k = absurd (omega (arith, ap (λ (x : ℕ × List ℕ). x .0) (answer ∙ answered-none (take n s) out (ltb-true _ _ k))))
-          at false k = wrote (take n s) out answer (ltb-false _ _ k)
 
 -- the part of a list from a place on, and the list with another part there
 part-from : (a : ℕ) (l : List ℕ) → midOf a (length l - a) l ≡ drop a l
@@ -125,10 +96,10 @@ put-from : (a : ℕ) (l m : List ℕ) → putMid a (length l - a) l m ≡ take a
 put-from a l m = rw (drop-of-length-le (drop a l) {i = length l - a} (rw length-drop (omega arith)), append-nil)
 
 -- a turn over what is left, behind what is done
-module _ {s out₀ out ys : List ℕ} {within ended goes : Bool} {u w : ℕ} {q : Answered}
-    (first : Done s within ended out₀ out (record { used = u; written = w; within = goes })) (as-long : length out ≡ length out₀)
-    (next : Turn (midOf u (length s - u) s) goes ended (midOf w (length out - w) out) ys q) where
-  pub done-again : Done s within ended out₀ (putMid w (length out - w) out ys) (record { used = u + q .used; written = w + q .written; within = q .within })
+module _ {answer : List ℕ → List ℕ} {s out₀ out ys : List ℕ} {within ended goes : Bool} {u w : ℕ} {q : Answered}
+    (first : Done answer s within ended out₀ out (record { used = u; written = w; within = goes })) (as-long : length out ≡ length out₀)
+    (next : Turn answer (midOf u (length s - u) s) goes ended (midOf w (length out - w) out) ys q) where
+  pub done-again : Done answer s within ended out₀ (putMid w (length out - w) out ys) (record { used = u + q .used; written = w + q .written; within = q .within })
   done-again =
       let turn = rw (part-from u s, part-from w out) at next in
       let front : length (take w out) ≡ w = length-take-le w out (omega (arith, first .writtenFits)) in
@@ -147,7 +118,7 @@ module _ {s out₀ out ys : List ℕ} {within ended goes : Bool} {u w : ℕ} {q 
   long-again h = same-len-mid w (length out - w) out ys h ∙ as-long
 
   pub turn-again : (u ≡ 0 → w ≡ 0)
-      → Turn s within ended out₀ (putMid w (length out - w) out ys) (record { used = u + q .used; written = w + q .written; within = q .within })
+      → Turn answer s within ended out₀ (putMid w (length out - w) out ys) (record { used = u + q .used; written = w + q .written; within = q .within })
   turn-again start = record { done = done-again; progress = at (ltb 0 u) refl }
     where
       at : (b : Bool) → ltb 0 u ≡ b → ready ended s ≡ true → min (indexOf 10 s) 65536 + 128 ≤ length out₀ → 0 < u + q .used
@@ -158,10 +129,10 @@ module _ {s out₀ out ys : List ℕ} {within ended goes : Bool} {u w : ℕ} {q 
           omega (arith, turn .progress e (omega arith))
 
 -- bytes of which none was used, though an answer had room, are no more than a request may have
-pub left-short : {s out out′ : List ℕ} {within ended : Bool} {r : Answered} → Turn s within ended out out′ r
+pub left-short : {answer : List ℕ → List ℕ} {s out out′ : List ℕ} {within ended : Bool} {r : Answered} → Turn answer s within ended out out′ r
     → r .used ≡ 0 → 65664 ≤ length out → length s ≤ 65535
 unfolding ready
-left-short {s} {out} {ended = ended} turn none room = at (ltb 65535 (length s)) refl
+left-short {s = s} {ended = ended} turn none room = at (ltb 65535 (length s)) refl
   where
     at : (b : Bool) → ltb 65535 (length s) ≡ b → length s ≤ 65535
     at true k = absurd (omega (arith, turn .progress (rw (k, or-true)) (omega arith)))

@@ -1,8 +1,17 @@
-// The lines of an input that comes in pieces, and their answers.
+// The lines of an input that comes in pieces, and its bytes that wait for their answers.
 use bytes::scan::find;
-use desk::answer;
-use pending::is_ready;
-ghost use Rattle.lines.specs.Lines.{Turn};
+ghost use mathlib.Core.Path.{_≡_};
+ghost use Rattle.lines.specs.Lines.{ready, firstOf, movedToFront};
+ghost use Rattle.bytes.specs.Bytes.{indexOf};
+
+// The first line of some bytes: whether it can be answered, how many bytes decide the answer, how many it has with its LF,
+// and whether it goes on behind them.
+pub struct First {
+    pub ready: bool,
+    pub length: usize,
+    pub used: usize,
+    pub continues: bool,
+}
 
 // How many bytes of the input are done with, how many bytes of answers were written, and whether the line that goes on
 // behind the bytes used is answered already.
@@ -12,57 +21,45 @@ pub struct Answered {
     pub within: bool,
 }
 
-// One line. Of a line that is too long for a request, one byte more than a request has is enough to say so.
-fn answer_line(s: &[u8], within: bool, ended: bool, out: &mut [u8]) -> Answered
-    ensures { λ r. ⌜ Turn (now (s .entry)) within ended (now (out .entry)) (now (out .exit)) r ⌝ }
+// Whether the first line, which ends at the place `end`, can be answered.
+fn is_ready(s: &[u8], end: usize, ended: bool) -> bool
+    requires { ⌜ end ≡ indexOf 10 (now s) ⌝ }
+    ensures { λ r. ⌜ r ≡ ready ended (now (s .entry)) ⌝ }
+{
+    if end < s.len() {
+        return true;
+    }
+    if 65535 < s.len() {
+        return true;
+    }
+    ended && 0 < s.len()
+}
+
+pub fn first_line(s: &[u8], ended: bool) -> First
+    ensures { λ r. ⌜ r ≡ firstOf ended (now (s .entry)) ⌝ }
 {
     let end = find(s, 0, s.len(), b'\n');
-    let goes_on = end == s.len();
-    let used = end + !goes_on as usize;
-    if within {
-        return Answered {
-            used,
-            written: 0,
-            within: goes_on,
-        };
-    }
-    if is_ready(s, end, ended) {
-        let length = if 65536 < end { 65536 } else { end };
-        let written = answer(&s[..length], out);
-        if 0 < written {
-            return Answered {
-                used,
-                written,
-                within: goes_on,
-            };
-        }
-    }
-    Answered {
-        used: 0,
-        written: 0,
-        within,
+    let continues = end == s.len();
+    let ready = is_ready(s, end, ended);
+    let length = if 65536 < end { 65536 } else { end };
+    First {
+        ready,
+        length,
+        used: end + !continues as usize,
+        continues,
     }
 }
 
-// The lines of s that can be answered and whose answers have room in out. Where the input has ended, so has its last line.
-pub fn answer_lines(s: &[u8], within: bool, ended: bool, out: &mut [u8]) -> Answered
-    ensures { λ r. ⌜ Turn (now (s .entry)) within ended (now (out .entry)) (now (out .exit)) r ⌝ }
+// The bytes from a place on, moved to the front, and how many they are. Those behind them are as they were.
+pub fn move_to_front(s: &mut [u8], from: usize) -> usize
+    ensures { λ r. ⌜ (r, now (s .exit)) ≡ movedToFront (now (s .entry)) from ⌝ }
 {
-    let mut used = 0;
-    let mut written = 0;
-    let mut within = within;
-    while used < s.len() {
-        let line = answer_line(&s[used..], within, ended, &mut out[written..]);
-        used += line.used;
-        written += line.written;
-        within = line.within;
-        if line.used == 0 {
-            break;
-        }
+    let mut kept = 0;
+    let mut i = from;
+    while i < s.len() {
+        s[kept] = s[i];
+        kept += 1;
+        i += 1;
     }
-    Answered {
-        used,
-        written,
-        within,
-    }
+    kept
 }

@@ -1,6 +1,6 @@
 // Standard input, one read after the other.
-use lines::answer_lines;
-use pending::move_to_front;
+use crate::turns::answer_lines;
+use lines::move_to_front;
 use streams::read_behind;
 use streams::write;
 ghost use Prim.Native.Nat.{_≤_};

@@ -1,5 +1,6 @@
 // The program for the desk: requests from standard input, or one from the arguments, and a line for each.
 mod input;
+mod turns;
 
 use desk::answer;
 use streams::join_arguments;

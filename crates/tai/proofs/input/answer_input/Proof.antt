@@ -5,7 +5,7 @@ use Prim.Native.Nat.{_≤_}
 use native.Mathlib.Omega.{arith}
 use lib.ListN.{length, length-take}
 use lib.Seq.{length-front}
-use Rattle.pending.proofs.Moves.{moved-count}
+use Rattle.lines.proofs.Moves.{moved-count}
 use Rattle.lines.proofs.Turns.{left-short}
 use Rattle.tai.proofs.input.answer_input.Statement.{statement}
 use Rattle.tai.proofs.input.answer_input.Tie as tie

@@ -1,11 +1,11 @@
--- `pending::move_to_front`: when k bytes are moved, the list is `moving s from k`.
+-- `lines::move_to_front`: when k bytes are moved, the list is `moving s from k`.
 use mathlib.Core.Path.{_≡_, refl}
 use Prim.Native.Nat.{_+_, _-_, _≤_}
 use native.Mathlib.Omega.{arith}
 use lib.ListN.{length, length-set}
-use Rattle.pending.proofs.Moves.{moving, move-one, moved}
-use Rattle.pending.proofs.move_to_front.Statement.{statement}
-use Rattle.pending.proofs.move_to_front.Tie as tie
+use Rattle.lines.proofs.Moves.{moving, move-one, moved}
+use Rattle.lines.proofs.move_to_front.Statement.{statement}
+use Rattle.lines.proofs.move_to_front.Tie as tie
 
 abbrev Inv-loop : tie.InvT-loop
 Inv-loop s₀ from kept₀ i₀ s kept i = (i ≡ from + kept) × (kept ≤ length s₀ - from) × (s ≡ moving s₀ from kept) × (length s ≡ length s₀)

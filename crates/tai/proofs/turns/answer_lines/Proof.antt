@@ -1,17 +1,18 @@
--- `lines::answer_lines`: one turn after another; while nothing is used, nothing is written.
+-- `tai::turns::answer_lines`: one turn after another; while nothing is used, nothing is written.
 use mathlib.Core.Path.{_≡_, refl}
 use Prim.Native.Nat.{_-_}
 use native.Mathlib.Omega.{arith}
 use lib.ListN.{length}
+use Rattle.desk.specs.Answers.{answerText}
 use Rattle.lines.specs.Lines.{Done}
-use Rattle.pending.proofs.Cuts.{ready-some}
+use Rattle.lines.proofs.Cuts.{ready-some}
 use Rattle.lines.proofs.Turns.{done-nothing, done-again, long-again, turn-again}
-use Rattle.lines.proofs.answer_lines.Statement.{statement}
-use Rattle.lines.proofs.answer_lines.Tie as tie
+use Rattle.tai.proofs.turns.answer_lines.Statement.{statement}
+use Rattle.tai.proofs.turns.answer_lines.Tie as tie
 
 abbrev Inv-loop : tie.InvT-loop
 Inv-loop s within ended out₀ used₀ written₀ within₀ out used written within' =
-    Done s within ended out₀ out (record { used = used; written = written; within = within' })
+    Done answerText s within ended out₀ out (record { used = used; written = written; within = within' })
     × (length out ≡ length out₀)
     × (used ≡ 0 → written ≡ 0)
 
@@ -19,7 +20,7 @@ abbrev μ-loop : tie.MeasureT-loop
 μ-loop s within ended out₀ used₀ written₀ within₀ out used written within' = length s - used
 
 loop-holds : tie.Need-loop-holds Inv-loop μ-loop
-loop-holds c = (done-nothing _ _ _ _, refl, λ e. e)
+loop-holds c = (done-nothing _ _ _ _ _, refl, λ e. e)
 
 sub-answer-line : tie.Need-sub-answer-line Inv-loop μ-loop
 sub-answer-line c = omega (arith, c .before .loop .inv .0 .usedFits)

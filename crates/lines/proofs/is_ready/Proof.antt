@@ -1,9 +1,9 @@
--- `pending::is_ready`: the tests in the definition's order.
+-- `lines::is_ready`: the tests in the definition's order.
 use mathlib.Core.Bool.{or-true}
 use borrow.Author.Tests.{lt-ltb, le-ltb}
-use Rattle.pending.specs.Pending.{ready}
-use Rattle.pending.proofs.is_ready.Statement.{statement}
-use Rattle.pending.proofs.is_ready.Tie as tie
+use Rattle.lines.specs.Lines.{ready}
+use Rattle.lines.proofs.is_ready.Statement.{statement}
+use Rattle.lines.proofs.is_ready.Tie as tie
 
 returns : tie.Need-returns
 unfolding ready
