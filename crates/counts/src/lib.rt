@@ -1,4 +1,6 @@
 // Timestamps, durations, and every entry on their counts. The names are those of lib.rs in the Rust.
+mod date_seconds; // calendar fields to a count
+
 use calendar::Date;
 use dates::BadField;
 use errors::CountError;
@@ -10,6 +12,8 @@ use seconds::Counted;
 ghost use mathlib.Core.Path.{_≡_};
 ghost use Rattle.counts.specs.Said.{saidCounted, saidTime, saidDateTime, saidUnix, saidDuration, saidOrdering};
 ghost use Rattle.counts.specs.Counts.{newTime, fromDateTime, fromUnix, toUnix, overEpoch, added, taken, since, compared};
+pub use date_seconds::SecsAnswer;
+pub use date_seconds::date_time_secs;
 pub use durations::Duration;
 pub use durations::DurationAnswer;
 pub use durations::Ordering;

@@ -2,11 +2,9 @@
 use mathlib.Core.List.{[], _∷_}
 use Prim.Native.Nat.{ℕ}
 use lib.IntN.{ℤ, pos}
-use Rattle.errors.specs.Refusals.{refusal, Outcome, gives, refuses, ofDateTime}
+use Rattle.errors.specs.Refusals.{refusal, Outcome, refuses}
 use Rattle.dates.specs.declared.BadField.{BadField}
 use Rattle.dates.specs.declared.BadField.the-variants as BadField
-use Rattle.dates.specs.declared.SecsAnswer.{SecsAnswer}
-use Rattle.dates.specs.declared.SecsAnswer.the-variants as Secs
 
 -- a field that is refused, or, where none is, what comes then
 abbrev pub saidField : BadField → ℕ → ℕ → ℕ → ℕ → ℕ → ℕ → Outcome ℤ → Outcome ℤ
@@ -17,7 +15,3 @@ saidField BadField.Minute month day hour min sec nano rest = refuses (refusal 3 
 saidField BadField.Second month day hour min sec nano rest = refuses (refusal 4 (pos sec ∷ []))
 saidField BadField.Nanosecond month day hour min sec nano rest = refuses (refusal 5 (pos nano ∷ []))
 saidField BadField.None month day hour min sec nano rest = rest
-
-abbrev pub saidSecs : SecsAnswer → Outcome ℤ
-saidSecs (Secs.At secs) = gives secs
-saidSecs (Secs.Refused e) = refuses (ofDateTime e)

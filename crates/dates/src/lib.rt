@@ -1,22 +1,11 @@
-// Calendar fields to a count.
-use calendar::Date;
+// The rules on calendar fields.
 use errors::DateTimeError;
-use integers::Checked;
-use moments::Moment;
-use moments::Time;
 ghost use mathlib.Core.Path.{_≡_};
-ghost use Prim.Native.Nat.{_≤_};
-ghost use lib.IntN.{ℤ, natAbs};
+ghost use lib.IntN.{ℤ};
 ghost use Rattle.errors.specs.Refusals.{Outcome, refuses, ofDateTime};
 ghost use Rattle.errors.specs.declared.DateTimeError.the-variants.{OutOfRange};
-ghost use Rattle.dates.specs.Said.{saidField, saidSecs};
-ghost use Rattle.dates.specs.Dates.{fieldsChecked, dateTimeSecs};
-
-// Seconds of calendar fields, or their refusal.
-pub enum SecsAnswer {
-    At(i64),
-    Refused(DateTimeError),
-}
+ghost use Rattle.dates.specs.Said.{saidField};
+ghost use Rattle.dates.specs.Dates.{fieldsChecked};
 
 // The calendar field that is refused first, in 01's order.
 pub enum BadField {
@@ -87,35 +76,5 @@ pub fn date_refusal(
         BadField::Minute => DateTimeError::InvalidMinute(min),
         BadField::Second => DateTimeError::InvalidSecond(sec),
         BadField::Nanosecond => DateTimeError::InvalidNanosecond(nano),
-    }
-}
-
-// The seconds of calendar fields over an epoch: refusals 0 to 6.
-pub fn date_time_secs(
-    epoch: i64,
-    year: i64,
-    month: u8,
-    day: u8,
-    hour: u8,
-    min: u8,
-    sec: u8,
-    nano: u32,
-) -> SecsAnswer
-    requires { ⌜ natAbs year ≤ 1_000_000_000_000 ⌝ }
-    ensures { λ r. ⌜ saidSecs r ≡ dateTimeSecs epoch year month day hour min sec nano ⌝ }
-{
-    let bad = first_bad_field(year, month, day, hour, min, sec, nano);
-    let BadField::None = bad else {
-        return SecsAnswer::Refused(date_refusal(bad, month, day, hour, min, sec, nano));
-    };
-    let date = Date { year, month, day };
-    let time = Time {
-        hour,
-        minute: min,
-        second: sec,
-    };
-    match moments::date_time_to_secs(Moment { date, time }, epoch) {
-        Checked::Exact(secs) => SecsAnswer::At(secs),
-        Checked::Outside => SecsAnswer::Refused(DateTimeError::OutOfRange),
     }
 }

@@ -12,8 +12,8 @@ use Rattle.counts.specs.declared.TimeAnswer.{TimeAnswer}
 use Rattle.counts.specs.declared.TimeAnswer.the-variants as Time
 use Rattle.counts.specs.declared.DateTimeAnswer.{DateTimeAnswer}
 use Rattle.counts.specs.declared.DateTimeAnswer.the-variants as DateTime
-use Rattle.dates.specs.declared.SecsAnswer.{SecsAnswer}
-use Rattle.dates.specs.declared.SecsAnswer.the-variants as Secs
+use Rattle.counts.specs.declared.date_seconds.SecsAnswer.{SecsAnswer}
+use Rattle.counts.specs.declared.date_seconds.SecsAnswer.the-variants as Secs
 use Rattle.seconds.specs.declared.UnixAnswer.{UnixAnswer}
 use Rattle.seconds.specs.declared.UnixAnswer.the-variants as Unix
 use Rattle.durations.specs.declared.DurationAnswer.{DurationAnswer}

@@ -15,7 +15,7 @@ use Rattle.moments.specs.Moments.{momentAt, ValidTime, secondsOf}
 use Rattle.moments.proofs.Moments.{seconds-moment, moment-seconds, moment-valid}
 use Rattle.counts.specs.Counts.{check, withNanos, dateTimeSecs, fromDateTime}
 use Rattle.seconds.proofs.Checks.{passed, refuses-not}
-use Rattle.dates.proofs.Fields.{Good, good-fields}
+use Rattle.counts.proofs.Dates.{Good, good-fields}
 use Rattle.demands.specs.Values.{moment, Reaches}
 use Rattle.demands.proofs.Passed.{with-nanos, gives-one}
 

@@ -11,7 +11,7 @@ use Rattle.errors.specs.declared.ParseDateTimeError.{ParseDateTimeError}
 use Rattle.calendar.specs.Walk.{Valid, date, monthLength}
 use Rattle.counts.specs.declared.TimeAnswer.{TimeAnswer}
 use Rattle.counts.specs.declared.DateTimeAnswer.{DateTimeAnswer}
-use Rattle.dates.specs.declared.SecsAnswer.{SecsAnswer}
+use Rattle.counts.specs.declared.date_seconds.SecsAnswer.{SecsAnswer}
 use Rattle.seconds.specs.declared.UnixAnswer.{UnixAnswer}
 use Rattle.durations.specs.declared.DurationAnswer.{DurationAnswer}
 use Rattle.durations.specs.declared.OrderingAnswer.{OrderingAnswer}

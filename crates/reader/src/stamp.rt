@@ -1,9 +1,9 @@
 // A text to a timestamp.
 use crate::date_time::parse_date_time;
 use counts::Epoch;
+use counts::SecsAnswer;
 use counts::TaiTime;
-use dates::SecsAnswer;
-use dates::date_time_secs;
+use counts::date_time_secs;
 use errors::ParseDateTimeError;
 use stages::Parsed;
 ghost use mathlib.Core.Path.{_≡_};

@@ -15,7 +15,8 @@ use Rattle.calendar.specs.Walk.{date}
 use Rattle.moments.specs.Moments.{secondsOf}
 use Rattle.counts.specs.Said.{saidField}
 use Rattle.counts.specs.Counts.{withNanos, fieldsChecked, dateTimeSecs, fromDateTime}
-use Rattle.dates.proofs.Fields.{at-field, field-refused, good-fields, secs-given, secs-refused}
+use Rattle.dates.proofs.Fields.{at-field, field-refused}
+use Rattle.counts.proofs.Dates.{good-fields, secs-given, secs-refused}
 use Rattle.counts.proofs.TaiTime.try_from_date_time.Statement.{statement}
 use Rattle.counts.proofs.TaiTime.try_from_date_time.Tie as tie
 

@@ -1,4 +1,4 @@
--- `dates::date_time_secs`: the field that is refused first, or else the range of the sum.
+-- `counts::date_time_secs`: the field that is refused first, or else the range of the sum.
 use mathlib.Core.Path.{_≡_, sym, ap, _∙_}
 use lib.IntN.{ℤ, pos, _-ℤ_}
 use mir.Facts.{toZ-ofZ}
@@ -9,10 +9,11 @@ use Rattle.integers.specs.Integers.{checked}
 use Rattle.errors.specs.Refusals.{Outcome, gives}
 use Rattle.calendar.specs.Walk.{date}
 use Rattle.moments.specs.Moments.{secondsOf}
-use Rattle.dates.specs.Dates.{fieldsChecked, dateTimeSecs}
-use Rattle.dates.proofs.Fields.{at-field, field-refused, good-fields, secs-given, secs-refused}
-use Rattle.dates.proofs.date_time_secs.Statement.{statement}
-use Rattle.dates.proofs.date_time_secs.Tie as tie
+use Rattle.counts.specs.Counts.{fieldsChecked, dateTimeSecs}
+use Rattle.dates.proofs.Fields.{at-field, field-refused}
+use Rattle.counts.proofs.Dates.{good-fields, secs-given, secs-refused}
+use Rattle.counts.proofs.date_seconds.date_time_secs.Statement.{statement}
+use Rattle.counts.proofs.date_seconds.date_time_secs.Tie as tie
 
 -- what the calls say, of the numbers themselves
 none-bad : (k : tie.After-enum-told) → let a = k .before .before .before .args in (rest : Outcome ℤ) → rest ≡ fieldsChecked (a .year) (a .month) (a .day) (a .hour) (a .min) (a .sec) (a .nano) rest
