@@ -1,5 +1,4 @@
--- What each entry answers, as `seconds` and `durations` say it, and dates: document 01's checks in its order ("When the box
--- says no"), in exact integers.
+-- What each entry answers, as `seconds` and `durations` say it; of calendar fields, in exact integers, by the rules of `dates`.
 use mathlib.Core.List.{[]}
 use Prim.Native.Nat.{ℕ}
 use lib.IntN.{ℤ, _-ℤ_}

@@ -1,4 +1,4 @@
--- What calendar fields answer: document 01's checks in its order ("When the box says no"), in exact integers.
+-- The rules on calendar fields: document 01's checks 0 to 5, in its order ("When the box says no").
 use mathlib.Core.Bool.{_&&_}
 use mathlib.Core.List.{[], _∷_}
 use Prim.Native.Nat.{ℕ}

@@ -11,7 +11,7 @@ use lib.ListN.{length, take, drop}
 use borrow.Author.Tests.{eqb-true, eqb-false}
 use mir.Val.{boolByte}
 use Rattle.bytes.specs.Bytes.{indexOf, indexAfter}
-use Rattle.lines.specs.Lines.{lines, inFirst, others, goesOn, ready, answersTo, answers}
+use Rattle.lines.specs.Lines.{lines, inFirst, others, continues, ready, firstOf, answersTo, answers}
 
 -- the first line
 abbrev pub first : List (List ℕ) → List ℕ
@@ -20,7 +20,7 @@ first (line ∷ rest) = line
 
 -- the bytes of the first line, with its LF
 abbrev pub used : List ℕ → ℕ
-used s = indexOf 10 s + boolByte (not (goesOn s))
+used s = firstOf false s .used
 
 in-first : (x : ℕ) (ls : List (List ℕ)) → inFirst x ls ≡ (x ∷ first ls) ∷ others ls
 in-first x [] = refl
@@ -38,14 +38,14 @@ module _ (x : ℕ) (s : List ℕ) (e : eqb x 10 ≡ false) where
 
 module _ (t : List ℕ) where
   -- the first line, where an LF ends it or nothing follows
-  pub first-line : (s : List ℕ) → (goesOn s ≡ false) ⊎ (t ≡ []) → first (lines (s ++ t)) ≡ take (indexOf 10 s) s
+  pub first-line : (s : List ℕ) → (continues s ≡ false) ⊎ (t ≡ []) → first (lines (s ++ t)) ≡ take (indexOf 10 s) s
   unfolding lines indexOf indexAfter
   first-line [] (inl h) = let z : _≡_ {A = ℕ} 0 1 = cc in absurd (omega arith)
   first-line [] (inr h) = rw h
   first-line (x ∷ s) h = at (eqb x 10) refl h (first-line s)
     where
-      at : (b : Bool) → eqb x 10 ≡ b → (goesOn (x ∷ s) ≡ false) ⊎ (t ≡ [])
-          → ((goesOn s ≡ false) ⊎ (t ≡ []) → first (lines (s ++ t)) ≡ take (indexOf 10 s) s)
+      at : (b : Bool) → eqb x 10 ≡ b → (continues (x ∷ s) ≡ false) ⊎ (t ≡ [])
+          → ((continues s ≡ false) ⊎ (t ≡ []) → first (lines (s ++ t)) ≡ take (indexOf 10 s) s)
           → first (lines (x ∷ (s ++ t))) ≡ take (indexOf 10 (x ∷ s)) (x ∷ s)
       at true e h k = rw e
       at false e (inl h) k = rw (lines-more x (s ++ t) e, index-more x s e, k (inl (rw (index-more x s e, compare·suc-suc) at h)))
@@ -80,9 +80,9 @@ index-le (x ∷ s) = at (eqb x 10) (index-le s)
 
 -- of bytes that are there, some are used, and no more
 pub used-some : (s : List ℕ) → (used s ≤ length s) × (0 < length s → 0 < used s)
-used-some s = at (goesOn s) refl (index-le s)
+used-some s = at (continues s) refl (index-le s)
   where
-    at : (b : Bool) → goesOn s ≡ b → indexOf 10 s ≤ length s
+    at : (b : Bool) → continues s ≡ b → indexOf 10 s ≤ length s
         → (indexOf 10 s + boolByte (not b) ≤ length s) × (0 < length s → 0 < indexOf 10 s + boolByte (not b))
     at true e h = let k : indexOf 10 s ≡ length s = eqb-true _ _ e in (omega arith, λ g. omega arith)
     at false e h = let k : indexOf 10 s ≡ length s → ⊥ = eqb-false _ _ e in (omega arith, λ g. omega arith)
@@ -90,13 +90,13 @@ used-some s = at (goesOn s) refl (index-le s)
 -- the answers to an input cut behind its first line, or within it
 module _ (answer : List ℕ → List ℕ) where
   -- passing over the first line
-  pub pass : (t s : List ℕ) → answers answer true (s ++ t) ≡ answers answer (goesOn s) (drop (used s) s ++ t)
+  pub pass : (t s : List ℕ) → answers answer true (s ++ t) ≡ answers answer (continues s) (drop (used s) s ++ t)
   unfolding lines indexOf indexAfter answers
   pass t [] = refl
   pass t (x ∷ s) = at (eqb x 10) refl (pass t s)
     where
-      at : (b : Bool) → eqb x 10 ≡ b → answers answer true (s ++ t) ≡ answers answer (goesOn s) (drop (used s) s ++ t)
-          → answers answer true (x ∷ (s ++ t)) ≡ answers answer (goesOn (x ∷ s)) (drop (used (x ∷ s)) (x ∷ s) ++ t)
+      at : (b : Bool) → eqb x 10 ≡ b → answers answer true (s ++ t) ≡ answers answer (continues s) (drop (used s) s ++ t)
+          → answers answer true (x ∷ (s ++ t)) ≡ answers answer (continues (x ∷ s)) (drop (used (x ∷ s)) (x ∷ s) ++ t)
       at true e k = rw (e, compare·zero-suc)
       at false e k = rw (lines-more x (s ++ t) e, index-more x s e, compare·suc-suc, suc-add) k
 

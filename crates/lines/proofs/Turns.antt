@@ -1,5 +1,5 @@
 -- The turns over the bytes of an input: nothing done, a line passed over, a line answered, and one turn after another.
-use mathlib.Core.Path.{_≡_, refl, sym, _∙_}
+use mathlib.Core.Path.{_≡_, refl, _∙_}
 use mathlib.Core.Bool.{Bool, true, false, cond, or-true}
 use mathlib.Core.List.{List, [], _∷_, _++_, append-nil, append-assoc}
 use mathlib.Core.Logic.{_⊎_, inl, inr}
@@ -11,7 +11,7 @@ use lib.Seq.{length-take-le, take-all, take-add, take-at, drop-at, drop-drop}
 use borrow.Rule.Slice.PartMut.{midOf, putMid, same-len-mid}
 use borrow.Author.Tests.{le-ltb, ltb-true, ltb-false, eqb-true}
 use Rattle.bytes.specs.Bytes.{indexOf}
-use Rattle.lines.specs.Lines.{lines, input, ready, goesOn, firstOf, Done, Turn}
+use Rattle.lines.specs.Lines.{lines, input, ready, continues, firstOf, Done, Turn}
 use Rattle.lines.specs.declared.Answered.{Answered}
 use Rattle.lines.proofs.Cuts.{first, used, first-line, first-long, ready-some, index-le, used-some, pass, answers-first}
 
@@ -29,7 +29,7 @@ module _ (answer : List ℕ → List ℕ) (s : List ℕ) (within ended : Bool) (
   turn-waiting h = turn-left (λ e _. let z : _≡_ {A = ℕ} 0 1 = cc in omega arith)
 
 module _ (answer : List ℕ → List ℕ) (s : List ℕ) (ended : Bool) (out : List ℕ) where
-  pub turn-passed : Turn answer s true ended out out (record { used = used s; written = 0; within = goesOn s })
+  pub turn-passed : Turn answer s true ended out out (record { used = used s; written = 0; within = continues s })
   turn-passed =
       record {
         done = record { same = λ later. pass answer (cond ended [] later) s; usedFits = used-some s .0; writtenFits = omega arith; behind = refl };
@@ -53,7 +53,7 @@ module _ (answer : List ℕ → List ℕ) (too-long : (s t : List ℕ) → 65535
       t : List ℕ
       t = cond ended [] later
 
-      known : (b c : Bool) → ended ≡ b → goesOn s ≡ c → indexOf 10 s ≤ 65535 → (goesOn s ≡ false) ⊎ (t ≡ [])
+      known : (b c : Bool) → ended ≡ b → continues s ≡ c → indexOf 10 s ≤ 65535 → (continues s ≡ false) ⊎ (t ≡ [])
       known true c d k m = inr (rw d)
       known false false d k m = inl k
       known false true d k m =
@@ -68,11 +68,11 @@ module _ (answer : List ℕ → List ℕ) (too-long : (s t : List ℕ) → 65535
       at false k =
           let m : indexOf 10 s ≤ 65535 = ltb-false _ _ k in
           let q : min (indexOf 10 s) 65536 ≡ indexOf 10 s = omega arith in
-          rw (q, first-line t s (known ended (goesOn s) refl refl m))
+          rw (q, first-line t s (known ended (continues s) refl refl m))
 
   pub turn-answered : (s : List ℕ) (ended : Bool) {out out′ : List ℕ} {w : ℕ} → ready ended s ≡ true
       → Wrote (answer (take (firstOf ended s .length) s)) out w out′
-      → Turn answer s false ended out out′ (record { used = used s; written = w; within = goesOn s })
+      → Turn answer s false ended out out′ (record { used = used s; written = w; within = continues s })
   turn-answered s ended e wrote =
       record {
         done =

@@ -35,18 +35,18 @@ unfoldable pub ready : Bool → List ℕ → Bool
 ready ended s = ltb (indexOf 10 s) (length s) || (ltb 65535 (length s) || (ended && ltb 0 (length s)))
 
 -- no LF ends the first line of s
-abbrev pub goesOn : List ℕ → Bool
-goesOn s = eqb (indexOf 10 s) (length s)
+abbrev pub continues : List ℕ → Bool
+continues s = eqb (indexOf 10 s) (length s)
 
--- the first line of s: whether it can be answered, how many of its bytes decide the answer (one more than a request may have
--- tells a longer one), how many it has with its LF, and whether it goes on behind s
+-- for the code, the first line of s: whether it can be answered, how many of its bytes decide the answer (one more than a
+-- request may have tells a longer one), how many it has with its LF, and whether no LF ends it
 abbrev pub firstOf : Bool → List ℕ → First
 firstOf ended s =
     record {
       ready = ready ended s;
       length = min (indexOf 10 s) 65536;
-      used = indexOf 10 s + boolByte (not (goesOn s));
-      continues = goesOn s;
+      used = indexOf 10 s + boolByte (not (continues s));
+      continues = continues s;
     }
 
 -- how many bytes stand from a place on, and s with these at the front

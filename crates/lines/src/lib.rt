@@ -5,7 +5,7 @@ ghost use Rattle.lines.specs.Lines.{ready, firstOf, movedToFront};
 ghost use Rattle.bytes.specs.Bytes.{indexOf};
 
 // The first line of some bytes: whether it can be answered, how many bytes decide the answer, how many it has with its LF,
-// and whether it goes on behind them.
+// and whether no LF ends it.
 pub struct First {
     pub ready: bool,
     pub length: usize,
