@@ -3,7 +3,6 @@ use mathlib.Core.Path.{_≡_, refl}
 use mathlib.Core.Bool.{Bool, true, false, not}
 use mathlib.Core.List.{List, [], _∷_, _++_}
 use Prim.Native.Nat.{ℕ, suc, _+_, _<_, _≤_, compare·zero-suc, compare·suc-suc}
-use native.Mathlib.Nat.{suc-add}
 use native.Mathlib.Omega.{arith}
 use mathlib.Core.Logic.{_⊎_, inl, inr}
 use lib.Dec.{eqb}
@@ -11,7 +10,8 @@ use lib.ListN.{length, take, drop}
 use borrow.Author.Tests.{eqb-true, eqb-false}
 use mir.Val.{boolByte}
 use Rattle.bytes.specs.Bytes.{indexOf, indexAfter}
-use Rattle.lines.specs.Lines.{lines, inFirst, others, continues, ready, firstOf, answersTo, answers}
+use Rattle.lines.specs.Lines.{lines, inFirst, others, ready, answersTo, answers}
+use Rattle.lines.specs.FirstLine.{continues, firstOf}
 
 -- the first line
 abbrev pub first : List (List ℕ) → List ℕ
@@ -80,12 +80,15 @@ index-le (x ∷ s) = at (eqb x 10) (index-le s)
 
 -- of bytes that are there, some are used, and no more
 pub used-some : (s : List ℕ) → (used s ≤ length s) × (0 < length s → 0 < used s)
-used-some s = at (continues s) refl (index-le s)
+used-some s = (omega arith, λ h. omega arith)
+
+-- those of the line, and its LF where one ends it
+pub used-is : (s : List ℕ) → indexOf 10 s + boolByte (not (continues s)) ≡ used s
+used-is s = at (continues s) refl (index-le s)
   where
-    at : (b : Bool) → continues s ≡ b → indexOf 10 s ≤ length s
-        → (indexOf 10 s + boolByte (not b) ≤ length s) × (0 < length s → 0 < indexOf 10 s + boolByte (not b))
-    at true e h = let k : indexOf 10 s ≡ length s = eqb-true _ _ e in (omega arith, λ g. omega arith)
-    at false e h = let k : indexOf 10 s ≡ length s → ⊥ = eqb-false _ _ e in (omega arith, λ g. omega arith)
+    at : (b : Bool) → continues s ≡ b → indexOf 10 s ≤ length s → indexOf 10 s + boolByte (not b) ≡ used s
+    at true e h = let k : indexOf 10 s ≡ length s = eqb-true _ _ e in omega arith
+    at false e h = let k : indexOf 10 s ≡ length s → ⊥ = eqb-false _ _ e in omega arith
 
 -- the answers to an input cut behind its first line, or within it
 module _ (answer : List ℕ → List ℕ) where
@@ -97,8 +100,10 @@ module _ (answer : List ℕ → List ℕ) where
     where
       at : (b : Bool) → eqb x 10 ≡ b → answers answer true (s ++ t) ≡ answers answer (continues s) (drop (used s) s ++ t)
           → answers answer true (x ∷ (s ++ t)) ≡ answers answer (continues (x ∷ s)) (drop (used (x ∷ s)) (x ∷ s) ++ t)
-      at true e k = rw (e, compare·zero-suc)
-      at false e k = rw (lines-more x (s ++ t) e, index-more x s e, compare·suc-suc, suc-add) k
+      at true e k = let u : used (x ∷ s) ≡ 1 = rw e (omega arith) in rw (u, e, compare·zero-suc)
+      at false e k =
+          let u : used (x ∷ s) ≡ suc (used s) = rw (index-more x s e) (omega arith) in
+          rw (u, lines-more x (s ++ t) e, index-more x s e, compare·suc-suc) k
 
   pub answers-first : (s : List ℕ) → 0 < length s → answers answer false s ≡ answer (first (lines s)) ++ (10 ∷ answers answer true s)
   unfolding answers lines answersTo

@@ -7,7 +7,7 @@ use native.Mathlib.Numerals.{add-one}
 use native.Mathlib.Omega.{arith}
 use lib.ListN.{length, take, drop, set, getD, length-drop}
 use lib.Seq.{length-take-le, take-all, take-suc, drop-cons, set-at, getD-append-add, getD-drop, append-snoc}
-use Rattle.lines.specs.Lines.{movedToFront}
+use Rattle.lines.specs.FirstLine.{movedToFront}
 
 -- s when k bytes have been moved
 abbrev pub moving : List ℕ → ℕ → ℕ → List ℕ

@@ -11,7 +11,8 @@ use lib.Seq.{length-take-le, take-all, take-add, take-at, drop-at, drop-drop}
 use borrow.Rule.Slice.PartMut.{midOf, putMid, same-len-mid}
 use borrow.Author.Tests.{le-ltb, ltb-true, ltb-false, eqb-true}
 use Rattle.bytes.specs.Bytes.{indexOf}
-use Rattle.lines.specs.Lines.{lines, input, ready, continues, firstOf, Done, Turn}
+use Rattle.lines.specs.Lines.{lines, input, ready, Done, Turn}
+use Rattle.lines.specs.FirstLine.{continues, firstOf}
 use Rattle.lines.specs.declared.Answered.{Answered}
 use Rattle.lines.proofs.Cuts.{first, used, first-line, first-long, ready-some, index-le, used-some, pass, answers-first}
 

@@ -1,15 +1,12 @@
--- The lines of an input, its bytes that wait for their answers, and what is answered to them. An input is the list of its
--- bytes; LF is 10.
+-- The lines of an input, and what is answered to them. An input is the list of its bytes; LF is 10.
 use mathlib.Core.Path.{_≡_}
-use mathlib.Core.Bool.{Bool, true, not, cond, _&&_, _||_}
+use mathlib.Core.Bool.{Bool, true, cond, _&&_, _||_}
 use mathlib.Core.List.{List, [], _∷_, _++_}
-use Prim.Native.Nat.{ℕ, _+_, _-_, _<_, _≤_, min}
+use Prim.Native.Nat.{ℕ, _+_, _<_, _≤_, min}
 use lib.Dec.{eqb, ltb}
 use lib.ListN.{length, take, drop}
-use mir.Val.{boolByte}
 use Rattle.bytes.specs.Bytes.{indexOf}
 use Rattle.lines.specs.declared.Answered.{Answered}
-use Rattle.lines.specs.declared.First.{First}
 
 -- a byte in front of the first line
 abbrev pub inFirst : ℕ → List (List ℕ) → List (List ℕ)
@@ -33,25 +30,6 @@ input ended s later = s ++ cond ended [] later
 -- a line of s can be answered: it has its LF, or more bytes than a request may have, or ends with the input
 unfoldable pub ready : Bool → List ℕ → Bool
 ready ended s = ltb (indexOf 10 s) (length s) || (ltb 65535 (length s) || (ended && ltb 0 (length s)))
-
--- no LF ends the first line of s
-abbrev pub continues : List ℕ → Bool
-continues s = eqb (indexOf 10 s) (length s)
-
--- for the code, the first line of s: whether it can be answered, how many of its bytes decide the answer (one more than a
--- request may have tells a longer one), how many it has with its LF, and whether no LF ends it
-abbrev pub firstOf : Bool → List ℕ → First
-firstOf ended s =
-    record {
-      ready = ready ended s;
-      length = min (indexOf 10 s) 65536;
-      used = indexOf 10 s + boolByte (not (continues s));
-      continues = continues s;
-    }
-
--- how many bytes stand from a place on, and s with these at the front
-unfoldable pub movedToFront : List ℕ → ℕ → ℕ × List ℕ
-movedToFront s from = (length s - from, drop from s ++ drop (length s - from) s)
 
 -- what is answered to a line is a text; behind each stands its LF
 unfoldable pub answersTo : (List ℕ → List ℕ) → List (List ℕ) → List ℕ

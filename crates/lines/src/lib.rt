@@ -1,10 +1,11 @@
 // The lines of an input that comes in pieces, and its bytes that wait for their answers.
 use bytes::scan::find;
 ghost use mathlib.Core.Path.{_≡_};
-ghost use Rattle.lines.specs.Lines.{ready, firstOf, movedToFront};
+ghost use Rattle.lines.specs.Lines.{ready};
+ghost use Rattle.lines.specs.FirstLine.{firstOf, movedToFront};
 ghost use Rattle.bytes.specs.Bytes.{indexOf};
 
-// The first line of some bytes: whether it can be answered, how many bytes decide the answer, how many it has with its LF,
+// The first line of some bytes: whether it can be answered, how many bytes decide the answer, how many are done with then,
 // and whether no LF ends it.
 pub struct First {
     pub ready: bool,
