@@ -7,7 +7,7 @@ use native.Mathlib.Omega.{arith}
 use lib.IntN.{ℤ, pos, negsuc, natAbs, negℤ, sucℤ, _+ℤ_, _-ℤ_, _*ℤ_}
 use lib.Signed.{_<ℤ_}
 use Rattle.integers.specs.Integers.{floorDiv}
-use Rattle.integers.proofs.Signed.{plus, minus, Is, eqZ, less, apart, size-law, add-law, diff-law, times-law, suc-law}
+use Rattle.integers.proofs.Signed.{plus, minus, Is, eqZ, less, apart, size-law, add-law, diff-law, times-law, suc-law, neg-size}
 use Rattle.integers.proofs.Floor.{floor-law, floor-one, floor-add, to-floor}
 use Rattle.calendar.specs.Walk.{isLeap}
 use Rattle.calendar.specs.Closed.{yearLength, leapYears, yearStart}
@@ -94,10 +94,6 @@ length-cycle c y =
     omega (arith, ap plus f, ap minus f, ap plus g, ap minus g, start-step (z +ℤ y), start-step y, add-law x (yearStart (sucℤ y)), add-law x (yearStart y))
 
 -- ---- a year's start in natural numbers: quotients round up from 0 on, and toward zero before
-pub neg-size : (n : ℕ) → (plus (negℤ (pos n)) ≡ 0) × (minus (negℤ (pos n)) ≡ n)
-neg-size zero = (refl, refl)
-neg-size (suc n) = (refl, refl)
-
 ceil-law : (k : ℕ) (y : ℤ) → 0 < k → Is (floorDiv k (y +ℤ pos (k - 1))) ((plus y + (k - 1)) / k) (minus y / k)
 unfolding floorDiv
 ceil-law k (pos n) h = omega (arith, zero-div k)

@@ -125,7 +125,7 @@ pub struct YearDay {
 }
 
 // A century has a quarter of the cycle's days, and its year a quarter of 1461, but where it starts with a common year.
-pub fn year_in_cycle(day: u32) -> YearDay
+fn year_in_cycle(day: u32) -> YearDay
     requires { ⌜ day < 146097 ⌝ }
     ensures { λ r. ⌜ InCycle day (r .year) (r .day) ⌝ }
 {

@@ -1,4 +1,5 @@
 -- Calendar fields that are all good, and the range of their seconds.
+use mathlib.Core.Bool.{and-eq-true-iff}
 use mathlib.Core.Path.{_≡_, refl, sym, ap, _∙_}
 use Prim.Native.Nat.{ℕ, _<_}
 use lib.Dec.{leb}
@@ -11,7 +12,8 @@ use Rattle.errors.specs.Refusals.{Outcome, gives, refuses, ofDateTime}
 use Rattle.errors.specs.declared.DateTimeError.the-variants.{OutOfRange}
 use Rattle.calendar.specs.Walk.{date, monthLength, Valid}
 use Rattle.moments.specs.Moments.{ValidTime, secondsOf}
-use Rattle.seconds.proofs.Checks.{both, passed, outside, inside, value}
+use Rattle.errors.proofs.Outcomes.{passed}
+use Rattle.seconds.proofs.Checks.{outside, inside, value}
 use Rattle.counts.specs.Counts.{fieldsChecked, dateTimeSecs}
 
 -- fields of which none is refused
@@ -30,8 +32,8 @@ good-fields year month day hour min sec nano e =
     let n = passed _ _ _ (h .1) in
     let s = passed _ _ _ (n .1) in
     let f = passed _ _ _ (s .1) in
-    let mm = both (leb 1 month) (leb month 12) (m .0) in
-    let dd = both (leb 1 day) (leb day (monthLength year month)) (d .0) in (
+    let mm = and-eq-true-iff (leb 1 month) (leb month 12) .0 (m .0) in
+    let dd = and-eq-true-iff (leb 1 day) (leb day (monthLength year month)) .0 (d .0) in (
       record {
         valid = record { month-from = leb-true _ _ (mm .0); month-to = leb-true _ _ (mm .1); day-from = leb-true _ _ (dd .0); day-to = leb-true _ _ (dd .1) };
         time = record { hour-to = leb-true _ _ (h .0); minute-to = leb-true _ _ (n .0); second-to = leb-true _ _ (s .0) };

@@ -1,4 +1,5 @@
 // Timestamps, durations, and every entry on their counts. The names are those of lib.rs in the Rust.
+mod constants; // what the constants are
 mod date_seconds; // calendar fields to a count
 
 use calendar::Date;
@@ -12,6 +13,8 @@ use seconds::Counted;
 ghost use mathlib.Core.Path.{_≡_};
 ghost use Rattle.counts.specs.Said.{saidCounted, saidTime, saidDateTime, saidUnix, saidDuration, saidOrdering};
 ghost use Rattle.counts.specs.Counts.{newTime, fromDateTime, fromUnix, toUnix, overEpoch, added, taken, since, compared};
+pub use constants::Constants;
+pub use constants::all_constants;
 pub use date_seconds::SecsAnswer;
 pub use date_seconds::date_time_secs;
 pub use durations::Duration;
@@ -33,6 +36,7 @@ pub struct TaiTime {
     pub nanos: u32,
 }
 
+// What each is: `all_constants`.
 impl Epoch {
     pub const MONOTONIC_TIME: Epoch = Epoch(0);
 
@@ -80,6 +84,7 @@ impl TaiTime {
         nanos: 999999999,
     };
 
+    // A timestamp of its parts.
     pub fn new(secs: i64, nanos: u32) -> TimeAnswer
         ensures { λ r. ⌜ saidTime r ≡ newTime secs nanos ⌝ }
     {
@@ -89,6 +94,7 @@ impl TaiTime {
         TimeAnswer::At(TaiTime { secs, nanos })
     }
 
+    // The timestamp over an epoch that reads as the calendar fields.
     pub fn try_from_date_time(
         epoch: Epoch,
         year: i32,
@@ -126,6 +132,7 @@ impl TaiTime {
         }
     }
 
+    // From Unix seconds to a timestamp over an epoch; whole seconds in the nanoseconds are carried.
     pub fn try_from_unix_timestamp(
         epoch: Epoch,
         secs: UnixSeconds,
@@ -137,36 +144,42 @@ impl TaiTime {
         time_answer(seconds::from_unix(epoch.0, secs.0, nanos, leap.0))
     }
 
+    // The Unix seconds of a timestamp over an epoch.
     pub fn as_unix_secs(self, epoch: Epoch, leap: LeapOffset) -> UnixAnswer
         ensures { λ r. ⌜ saidUnix r ≡ toUnix (epoch .0) (self .secs) (self .nanos) (leap .0) ⌝ }
     {
         seconds::to_unix(epoch.0, self.secs, self.nanos, leap.0)
     }
 
+    // The same moment, counted from another epoch.
     pub fn to_tai_time(self, old: Epoch, new: Epoch) -> TimeAnswer
         ensures { λ r. ⌜ saidTime r ≡ overEpoch (old .0) (new .0) (self .secs) (self .nanos) ⌝ }
     {
         time_answer(seconds::over_epoch(old.0, new.0, self.secs, self.nanos))
     }
 
+    // The timestamp that lies a duration later.
     pub fn checked_add(self, d: Duration) -> TimeAnswer
         ensures { λ r. ⌜ saidTime r ≡ added (self .secs) (self .nanos) (d .secs) (d .nanos) ⌝ }
     {
         time_answer(durations::add(self.secs, self.nanos, d.secs, d.nanos))
     }
 
+    // The timestamp that lies a duration earlier.
     pub fn checked_sub(self, d: Duration) -> TimeAnswer
         ensures { λ r. ⌜ saidTime r ≡ taken (self .secs) (self .nanos) (d .secs) (d .nanos) ⌝ }
     {
         time_answer(durations::sub(self.secs, self.nanos, d.secs, d.nanos))
     }
 
+    // How long after an earlier timestamp over the same epoch this is.
     pub fn checked_duration_since(self, earlier: TaiTime) -> DurationAnswer
         ensures { λ r. ⌜ saidDuration r ≡ since (self .secs) (self .nanos) (earlier .secs) (earlier .nanos) ⌝ }
     {
         durations::since(self.secs, self.nanos, earlier.secs, earlier.nanos)
     }
 
+    // Whether it is earlier than, the same as or later than another timestamp over the same epoch.
     pub fn cmp(self, other: TaiTime) -> OrderingAnswer
         ensures { λ r. ⌜ saidOrdering r ≡ compared (self .secs) (self .nanos) (other .secs) (other .nanos) ⌝ }
     {

@@ -7,6 +7,7 @@ use Rattle.errors.specs.Refusals.{Refusal, Outcome, gives, refuses, ofParse}
 use Rattle.errors.specs.declared.ParseDateTimeError.{ParseDateTimeError}
 use Rattle.errors.specs.declared.ParseDateTimeError.the-variants.{MissingField, InvalidFieldWidth, InvalidFieldValue, RangeError}
 use Rattle.errors.proofs.One.{count-one, date-time-one, parse-one}
+use Rattle.errors.proofs.Outcomes.{gives-one, refuses-not, refuses-one}
 use Rattle.counts.specs.declared.TaiTime.{TaiTime}
 use Rattle.counts.specs.declared.TimeAnswer.{TimeAnswer}
 use Rattle.counts.specs.declared.TimeAnswer.the-variants as Time
@@ -24,11 +25,6 @@ use Rattle.counts.specs.Said.{saidTime, saidSecs, saidDateTime, saidUnix, saidD
 use Rattle.reader.specs.declared.stamp.ReadAnswer.{ReadAnswer}
 use Rattle.reader.specs.declared.stamp.ReadAnswer.the-variants as Read
 use Rattle.reader.specs.Stamp.{saidRead}
-use Rattle.seconds.proofs.Checks.{refuses-not}
-use Rattle.demands.proofs.Passed.{gives-one}
-
-refuses-one : {A : Type 0} {r q : Refusal} → _≡_ {A = Outcome A} (refuses r) (refuses q) → r ≡ q
-refuses-one e = cc
 
 same-time : (t t′ : TaiTime) → _≡_ {A = Outcome (ℤ × ℕ)} (gives (t .secs, t .nanos)) (gives (t′ .secs, t′ .nanos)) → t ≡ t′
 same-time t t′ e = let p = gives-one e in λ i. record { secs = p i .0; nanos = p i .1 }

@@ -8,16 +8,16 @@ use lib.Dec.{leb}
 use lib.IntN.{ℤ, _+ℤ_, _-ℤ_, +ℤ-negℤ-cancel, -ℤ-+ℤ-cancel}
 use borrow.Author.Tests.{le-leb, lt-ltb, leb-true, ltb-true}
 use Rattle.integers.specs.Integers.{isI64}
-use Rattle.errors.specs.Refusals.{gives, refuses, refusal}
+use Rattle.errors.specs.Refusals.{gives, refuses, refusal, check}
+use Rattle.errors.proofs.Outcomes.{gives-one, passed, refuses-not}
 use Rattle.moments.specs.declared.Moment.{Moment}
 use Rattle.calendar.specs.Walk.{Valid, date, monthLength}
 use Rattle.moments.specs.Moments.{momentAt, ValidTime, secondsOf}
 use Rattle.moments.proofs.Moments.{seconds-moment, moment-seconds, moment-valid}
-use Rattle.counts.specs.Counts.{check, withNanos, dateTimeSecs, fromDateTime}
-use Rattle.seconds.proofs.Checks.{passed, refuses-not}
+use Rattle.counts.specs.Counts.{withNanos, dateTimeSecs, fromDateTime}
 use Rattle.counts.proofs.Dates.{Good, good-fields}
 use Rattle.demands.specs.Values.{moment, Reaches}
-use Rattle.demands.proofs.Passed.{with-nanos, gives-one}
+use Rattle.demands.proofs.Passed.{with-nanos}
 
 -- ---- the only count
 pub one-count : {epoch a b : ℤ} {m : Moment} → Reaches epoch a m → Reaches epoch b m → a ≡ b

@@ -24,9 +24,9 @@ use Rattle.stages.specs.Text.{parsed}
 use Rattle.reader.specs.Stamp.{saidRead, readText}
 use Rattle.printer.specs.declared.Printed.{Printed}
 use Rattle.printed_parts.specs.declared.Precision.{Precision}
-use Rattle.printer.specs.Line.{said}
+use Rattle.printer.specs.Lent.{said}
 use Rattle.printer.specs.Display.{timeText, displayed}
-use Rattle.printer.proofs.Line.{said-one}
+use Rattle.printer.proofs.Lent.{said-one}
 use Rattle.demands.specs.Refused.{OnlyRefuses}
 use Rattle.demands.proofs.Answers.{time-one, date-time-answer-one, secs-one, unix-one, duration-one, ordering-one, read-one}
 use Rattle.demands.proofs.RefusalsOf.{new-only, from-date-only, from-unix-only, to-unix-only, over-epoch-only, added-only, taken-only, since-only, compared-only, read-only, displayed-only}

@@ -15,13 +15,13 @@ use Rattle.calendar.specs.declared.Date.{Date}
 use Rattle.moments.specs.declared.Moment.{Moment}
 use Rattle.calendar.specs.Walk.{isLeap, monthLength, Valid, date, next, prev, start, walk}
 use Rattle.calendar.specs.Closed.{dayNumber}
-use Rattle.moments.specs.Moments.{timeAt, momentAt, ValidTime, secondOfDay, secondsOf}
+use Rattle.moments.specs.Moments.{timeOfDay, momentAt, ValidTime, secondOfDay, secondsOf}
 use Rattle.calendar.proofs.Walk.{walk-valid, day-walk, walk-day}
 use Rattle.calendar.proofs.Cycle.{walk-cycle, walk-to-year-0}
 use Rattle.moments.proofs.Moments.{seconds-moment, moment-seconds}
 use Rattle.printed_parts.specs.declared.Precision.{Precision}
 use Rattle.printer.specs.Text.{text}
-use Rattle.printer.specs.Display.{stamp, timeText, displayed}
+use Rattle.printer.specs.Display.{instant, timeText, displayed}
 use Rattle.demands.specs.Values.{Divides, monthLengths, moment}
 use Rattle.demands.proofs.LeapRule.{leap-is}
 use Rattle.demands.proofs.WalkFacts.{walk-on, walk-back, next-day, next-month, next-year, common-lengths, leap-lengths, year-length, year-0-leap, day-60-of-year-0, seconds-of-year-0, seconds-cycle, time-of}
@@ -106,12 +106,12 @@ pub whole-days : (z : ℤ) → Floor 86400 z (floorDiv 86400 z) (floorMod 86400 
 whole-days z = floor-law 86400 z (omega arith)
 
 -- of which the walk goes the days, and the rest is the time.
-pub moment-is-walked : (z : ℤ) → momentAt z ≡ record { date = walk (floorDiv 86400 z); time = timeAt (floorMod 86400 z) }
+pub moment-is-walked : (z : ℤ) → momentAt z ≡ record { date = walk (floorDiv 86400 z); time = timeOfDay (floorMod 86400 z) }
 unfolding momentAt
 moment-is-walked z = refl
 
 -- The time at a second of the day exists, and is that second.
-pub time-of-day : (n : ℕ) → n < 86400 → ValidTime (timeAt n) × (secondOfDay (timeAt n) ≡ n)
+pub time-of-day : (n : ℕ) → n < 86400 → ValidTime (timeOfDay n) × (secondOfDay (timeOfDay n) ≡ n)
 time-of-day = time-of
 
 -- The closed formula that the code works by is the walk's inverse,
@@ -133,7 +133,7 @@ moment-of-the-seconds = moment-seconds
 module _ (secs : ℤ) (nanos : ℕ) (epoch : ℤ) (precision : Precision) where
   -- The text of a count is that of the date reached by walking the whole days of seconds plus epoch,
   pub prints-the-walk : timeText secs nanos epoch precision
-      ≡ text (stamp (record { date = walk (floorDiv 86400 (secs +ℤ epoch)); time = timeAt (floorMod 86400 (secs +ℤ epoch)) }) nanos) precision
+      ≡ text (instant (record { date = walk (floorDiv 86400 (secs +ℤ epoch)); time = timeOfDay (floorMod 86400 (secs +ℤ epoch)) }) nanos) precision
   unfolding timeText momentAt
   prints-the-walk = refl
 

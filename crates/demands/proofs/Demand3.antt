@@ -14,7 +14,7 @@ use Rattle.calendar.specs.Walk.{Valid}
 use Rattle.moments.specs.Moments.{momentAt, ValidTime}
 use Rattle.counts.specs.Counts.{fromDateTime, exact, added, taken, since, compared}
 use Rattle.durations.specs.declared.Ordering.the-variants.{Less}
-use Rattle.reader.specs.Stamp.{readText}
+use Rattle.reader.specs.Stamp.{readText, yearLimit}
 use Rattle.printed_parts.specs.declared.Precision.the-variants.{Default}
 use Rattle.printer.specs.Display.{timeText, displayed}
 use Rattle.demands.specs.Values.{I64, Timestamp, Duration, moment, Reaches, EarlierReading, TimeLiesAt, DurationLiesAt}
@@ -79,12 +79,12 @@ pub one-timestamp-a-text : (epoch : ℤ) {secs secs′ : ℤ} {nanos nanos′ : 
     → timeText secs nanos epoch Default ≡ timeText secs′ nanos′ epoch Default → (secs ≡ secs′) × (nanos ≡ nanos′)
 one-timestamp-a-text = one-text
 
-module _ (secs : ℤ) (nanos : ℕ) (epoch : ℤ) (t : Timestamp secs nanos) (within : natAbs (momentAt (secs +ℤ epoch) .date .year) ≤ 2147483647) where
+module _ (secs : ℤ) (nanos : ℕ) (epoch : ℤ) (t : Timestamp secs nanos) (within : natAbs (momentAt (secs +ℤ epoch) .date .year) ≤ yearLimit) where
   -- the text reads back as the timestamp over the same epoch, if the year is within ±2147483647,
-  pub reads-back : readText 2147483647 epoch (timeText secs nanos epoch Default) ≡ gives (secs, nanos)
-  reads-back = back 2147483647 secs nanos epoch t (omega arith) (omega arith)
+  pub reads-back : readText yearLimit epoch (timeText secs nanos epoch Default) ≡ gives (secs, nanos)
+  reads-back = back yearLimit secs nanos epoch t (omega arith) (omega arith)
 
   -- and so does what printing has written into a line.
   pub reads-back-from-the-line : (line : List ℕ) (at n : ℕ) → displayed secs nanos epoch Default line at .0 ≡ gives n
-      → readText 2147483647 epoch (take n (drop at (displayed secs nanos epoch Default line at .1))) ≡ gives (secs, nanos)
+      → readText yearLimit epoch (take n (drop at (displayed secs nanos epoch Default line at .1))) ≡ gives (secs, nanos)
   reads-back-from-the-line line at n e = rw (in-line secs nanos epoch Default line at e) reads-back

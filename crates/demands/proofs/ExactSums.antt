@@ -12,12 +12,11 @@ use Rattle.integers.proofs.Signed.{plus, minus, apart}
 use Rattle.integers.proofs.Machine.{known}
 use Rattle.integers.proofs.Floor.{floor-law, floor-one}
 use Rattle.errors.specs.Refusals.{gives, refuses, refusal}
+use Rattle.errors.proofs.Outcomes.{gives-one, passed, refuses-not}
 use Rattle.counts.specs.Counts.{exact, timeAt, durationAt, added, taken, since}
 use Rattle.durations.proofs.Nanos.{difference-law}
 use Rattle.demands.specs.Values.{I64, Timestamp, Duration, TimeLiesAt, DurationLiesAt}
 use Rattle.demands.proofs.Integers.{fits}
-use Rattle.demands.proofs.Passed.{gives-one}
-use Rattle.seconds.proofs.Checks.{passed, refuses-not}
 
 -- ---- timestamps
 at-floor : {s : ℤ} {n : ℕ} (z : ℤ) → n < 1000000000 → exact s n ≡ z → Floor 1000000000 z s n

@@ -1,6 +1,6 @@
 -- The printed year and the printed fields read back, each with the rest behind its delimiter.
 use mathlib.Core.Path.{_≡_, refl, sym, ap, _∙_}
-use mathlib.Core.Bool.{Bool, true, false}
+use mathlib.Core.Bool.{Bool, true, false, and-eq-true-iff}
 use mathlib.Core.List.{List, [], _∷_, _++_, append-nil}
 use Prim.Native.Nat.{ℕ, suc, _+_, _^_, _<_, _≤_}
 use native.Mathlib.Omega.{arith}
@@ -15,7 +15,6 @@ use Rattle.fields.specs.declared.Delimiter.the-variants.{Hyphen, SpaceOrT, Colo
 use Rattle.fields.specs.declared.Field.the-variants as Field
 use Rattle.fields.specs.declared.Seconds.the-variants as Seconds
 use Rattle.stages.specs.declared.Parsed.{Parsed}
-use Rattle.seconds.proofs.Checks.{both}
 use Rattle.fields.proofs.Tenths.{good-fraction}
 use Rattle.digits.specs.Digits.{digits}
 use Rattle.digits.proofs.Decimal.{digits-length}
@@ -35,7 +34,7 @@ no-delimiter Point x h = ne-eqb x 46 (λ q. omega (arith, digit-low x h))
 width-digits : (d : Delimiter) (a : List ℕ) (y : ℕ) (r : List ℕ) → isDelimiter d y ≡ true → allDigits a ≡ true → width d (a ++ (y ∷ r)) ≡ length a
 unfolding width allDigits
 width-digits d [] y r is h = rw is
-width-digits d (x ∷ a) y r is h = let k = both (isDigit x) (allDigits a) h in rw (no-delimiter d x (k .0)) (ap suc (width-digits d a y r is (k .1)))
+width-digits d (x ∷ a) y r is h = let k = and-eq-true-iff (isDigit x) (allDigits a) .0 h in rw (no-delimiter d x (k .0)) (ap suc (width-digits d a y r is (k .1)))
 
 module _ (d : Delimiter) (a : List ℕ) (y : ℕ) (r : List ℕ) (is : isDelimiter d y ≡ true) (h : allDigits a ≡ true) where
   behind-digits : behind d (a ++ (y ∷ r)) ≡ r
@@ -51,7 +50,7 @@ module _ (d : Delimiter) (a : List ℕ) (y : ℕ) (r : List ℕ) (is : isDelimit
 width-all : (d : Delimiter) (a : List ℕ) → allDigits a ≡ true → width d a ≡ length a
 unfolding width allDigits
 width-all d [] h = refl
-width-all d (x ∷ a) h = let k = both (isDigit x) (allDigits a) h in rw (no-delimiter d x (k .0)) (ap suc (width-all d a (k .1)))
+width-all d (x ∷ a) h = let k = and-eq-true-iff (isDigit x) (allDigits a) .0 h in rw (no-delimiter d x (k .0)) (ap suc (width-all d a (k .1)))
 
 -- ---- a field of two digits
 module _ (d : Delimiter) (v : ℕ) (small : v < 100) where

@@ -1,6 +1,6 @@
 -- The printed fraction reads back: zeros left out at its end weigh nothing.
 use mathlib.Core.Path.{_≡_, refl, ap, _∙_}
-use mathlib.Core.Bool.{Bool, true, false, cond}
+use mathlib.Core.Bool.{Bool, true, false, cond, and-eq-true-iff}
 use mathlib.Core.List.{List, [], _∷_, _++_}
 use Prim.Native.Nat.{ℕ, zero, suc, _+_, _-_, _*_, _/_, _%_, _^_, _<_}
 use native.Mathlib.Nat.{pow-suc, pow-succ', mul-assoc, mul-comm, add-zero, div-div-eq-div-mul, mul-div-cancel, mul-add, one-le-pow, zero-mul, mul-one, one-mul, div-one}
@@ -10,7 +10,6 @@ use lib.ListN.{length}
 use borrow.Author.Tests.{eqb-true}
 use Rattle.decimals.specs.Numbers.{isDigit, allDigits}
 use Rattle.fields.specs.Fields.{nanoseconds}
-use Rattle.seconds.proofs.Checks.{both}
 use Rattle.fields.proofs.Tenths.{weighed, weighed-nanoseconds}
 use Rattle.digits.specs.Digits.{digits}
 use Rattle.digits.proofs.Decimal.{digits-length}
@@ -77,7 +76,7 @@ unless-last-digits x (y ∷ s) h k = rw h k
 trim-keeps : (s : List ℕ) → allDigits s ≡ true → allDigits (trim s) ≡ true
 unfolding allDigits trim
 trim-keeps [] h = refl
-trim-keeps (x ∷ s) h = let k = both (isDigit x) (allDigits s) h in unless-last-digits x (trim s) (k .0) (trim-keeps s (k .1))
+trim-keeps (x ∷ s) h = let k = and-eq-true-iff (isDigit x) (allDigits s) .0 h in unless-last-digits x (trim s) (k .0) (trim-keeps s (k .1))
 
 pub trim-digits : (n : ℕ) → allDigits (trim (digits 9 n)) ≡ true
 trim-digits n = trim-keeps (digits 9 n) (all-digits 9 n)

@@ -7,9 +7,8 @@ use native.Mathlib.Nat.{div-add-mod', mul-mod-left, zero-mul}
 use native.Mathlib.Omega.{arith}
 use lib.IntN.{ℤ, pos, negsuc, natAbs, negℤ, _*ℤ_}
 use borrow.Author.Tests.{eqb-true, eq-eqb}
-use Rattle.integers.proofs.Signed.{eqZ, size-law, times-law}
+use Rattle.integers.proofs.Signed.{eqZ, size-law, times-law, neg-size}
 use Rattle.calendar.specs.Walk.{divides, isLeap}
-use Rattle.calendar.proofs.Years.{neg-size}
 use Rattle.demands.specs.Values.{Divides}
 
 multiple : (k : ℕ) (y : ℤ) → natAbs y % k ≡ 0 → Divides k y

@@ -11,11 +11,10 @@ use lib.ListN.{length, take, drop, length-take}
 use lib.Seq.{drop-append-add, take-append-seam}
 use borrow.Author.Tests.{lt-ltb, le-ltb, ltb-false}
 use Rattle.errors.specs.Refusals.{Refusal, Outcome, gives, refuses, refusal}
+use Rattle.errors.proofs.Outcomes.{gives-one, refuses-not}
 use Rattle.printed_parts.specs.declared.Precision.{Precision}
-use Rattle.printer.specs.Line.{byRoom}
+use Rattle.printer.specs.Lent.{byRoom}
 use Rattle.printer.specs.Display.{timeText, displayed}
-use Rattle.seconds.proofs.Checks.{refuses-not}
-use Rattle.demands.proofs.Passed.{gives-one}
 
 -- the outcome and the line, by the three tests: nanoseconds below 10^9, a place beyond the line, want of room
 abbrev tested : List ℕ → ℕ → List ℕ → Bool → Bool → Bool → Outcome ℕ × List ℕ

@@ -6,8 +6,8 @@ use mathlib.Core.Logic.{_⊎_, ⊎-elim}
 use Prim.Native.Nat.{ℕ, _≤_}
 use lib.Dec.{ltb}
 use borrow.Author.Tests.{le-ltb}
-use Rattle.errors.specs.Refusals.{refusal, Outcome, refuses}
-use Rattle.counts.specs.Counts.{check, goodNanos}
+use Rattle.errors.specs.Refusals.{refusal, Outcome, refuses, check}
+use Rattle.counts.specs.Counts.{goodNanos}
 
 pub first : {A : Type 0} (nanos : ℕ) (o : Outcome A) → 1000000000 ≤ nanos → goodNanos nanos o ≡ refuses (refusal 11 [])
 first nanos o h = rw (le-ltb nanos 1000000000 h)

@@ -11,13 +11,12 @@ use Rattle.integers.specs.Integers.{Floor}
 use Rattle.integers.proofs.Signed.{less, to-less, lt-true, true-lt, add-law, Tri, before, same, after}
 use Rattle.integers.proofs.Floor.{floor-order}
 use Rattle.errors.specs.Refusals.{refusal, gives}
+use Rattle.errors.proofs.Outcomes.{gives-one, passed}
 use Rattle.moments.specs.Moments.{momentAt}
 use Rattle.moments.proofs.Moments.{moment-order}
 use Rattle.counts.specs.Counts.{exact, order, compared}
 use Rattle.durations.specs.declared.Ordering.the-variants.{Less, Equal, Greater}
 use Rattle.demands.specs.Values.{EarlierReading, by-moment, by-nanos}
-use Rattle.demands.proofs.Passed.{gives-one}
-use Rattle.seconds.proofs.Checks.{passed}
 
 split : (secs : ℤ) (nanos : ℕ) → nanos < 1000000000 → Floor 1000000000 (exact secs nanos) secs nanos
 unfolding exact

@@ -16,7 +16,7 @@ use Rattle.counts.specs.Counts.{dateTimeSecs, fromDateTime, exact, timeAt, adde
 use Rattle.decimals.specs.Numbers.{beginsWith, isDigit, allDigits, decimalAfter, digitsUpTo, number}
 use Rattle.fields.specs.Fields as Fields
 use Rattle.stages.specs.Text as Text
-use Rattle.reader.specs.Stamp.{readText}
+use Rattle.reader.specs.Stamp.{readText, yearLimit}
 use Rattle.digits.specs.Digits as Digits
 use Rattle.printed_parts.specs.Text as Parts
 use Rattle.printer.specs.Text as Printed
@@ -27,10 +27,11 @@ use Rattle.stages.specs.declared.Parsed.{Parsed}
 use Rattle.stages.specs.declared.Parsed.the-variants.{Fields, Refused}
 use Rattle.printed_parts.specs.declared.Precision.the-variants.{Default}
 use Rattle.printer.specs.Text.{text}
-use Rattle.printer.specs.Line.{answer, lineAfter}
-use Rattle.printer.specs.Display.{stamp, timeText, displayed}
+use Rattle.printer.specs.Lent.{answer, lineAfter}
+use Rattle.printer.specs.Display.{instant, timeText, displayed}
 use Rattle.demands.specs.Values.{moment}
-use Rattle.demands.specs.Readings.{bytes, Reading, prints, counts, reads, adds, Holds, AllHold, readings}
+use Rattle.texts.specs.Texts.{bytes}
+use Rattle.demands.specs.Readings.{Reading, prints, counts, reads, adds, Holds, AllHold, readings}
 use Rattle.demands.proofs.DatesWalked.{accepted}
 
 -- ---- equality that computes
@@ -103,13 +104,13 @@ same-outcome (refusesInRangeError r) (refusesInRangeError q) t = ap refusesInRan
 abbrev printsAs : ℤ → ℤ → ℕ → List ℕ → Parsed → Bool
 printsAs epoch secs nanos said (Fields f) =
     same (fromDateTime epoch (f .year) (f .month) (f .day) (f .hour) (f .min) (f .sec) (f .nano)) (gives (secs, nanos))
-    && sameList eqb (text (stamp (moment (f .year) (f .month) (f .day) (f .hour) (f .min) (f .sec)) nanos) Default) said
+    && sameList eqb (text (instant (moment (f .year) (f .month) (f .day) (f .hour) (f .min) (f .sec)) nanos) Default) said
 printsAs epoch secs nanos said (Refused e) = false
 
 abbrev pub passes : Reading → Bool
 passes (prints epoch secs nanos said) = ltb nanos 1000000000 && printsAs epoch secs nanos (bytes said) (parsed (10 ^ 12) (bytes said))
 passes (counts epoch year month day hour min sec nano said) = same (fromDateTime epoch year month day hour min sec nano) said
-passes (reads epoch said outcome) = same (readText 2147483647 epoch (bytes said)) outcome
+passes (reads epoch said outcome) = same (readText yearLimit epoch (bytes said)) outcome
 passes (adds secs nanos dsecs dnanos said) = same (added secs nanos dsecs dnanos) said
 
 -- ---- a row that passes holds
@@ -119,9 +120,9 @@ text-of epoch secs nanos said (Refused e) t = absurd t
 text-of epoch secs nanos said (Fields f) t =
     let o = fromDateTime epoch (f .year) (f .month) (f .day) (f .hour) (f .min) (f .sec) (f .nano) in
     let m = moment (f .year) (f .month) (f .day) (f .hour) (f .min) (f .sec) in
-    let b = and-yes (same o (gives (secs, nanos))) (sameList eqb (text (stamp m nanos) Default) said) t in
+    let b = and-yes (same o (gives (secs, nanos))) (sameList eqb (text (instant m nanos) Default) said) t in
     let a = accepted epoch (f .year) (f .month) (f .day) (f .hour) (f .min) (f .sec) (f .nano) secs nanos .0 (same-outcome o (gives (secs, nanos)) (b .0)) in
-    ap (λ (x : Moment). text (stamp x nanos) Default) (a .0 .walked) ∙ same-list eqb eqb→eq (text (stamp m nanos) Default) said (b .1)
+    ap (λ (x : Moment). text (instant x nanos) Default) (a .0 .walked) ∙ same-list eqb eqb→eq (text (instant m nanos) Default) said (b .1)
 
 line-of : (epoch secs : ℤ) (nanos : ℕ) (said : List ℕ) → nanos < 1000000000 → timeText secs nanos epoch Default ≡ said → (line : List ℕ) (at : ℕ) → displayed secs nanos epoch Default line at ≡ (answer line at said, lineAfter line at said)
 unfolding displayed
@@ -132,7 +133,7 @@ holds (prints epoch secs nanos said) t =
     let b = and-yes (ltb nanos 1000000000) (printsAs epoch secs nanos (bytes said) (parsed (10 ^ 12) (bytes said))) t in
     line-of epoch secs nanos (bytes said) (ltb→lt nanos 1000000000 (b .0)) (text-of epoch secs nanos (bytes said) (parsed (10 ^ 12) (bytes said)) (b .1))
 holds (counts epoch year month day hour min sec nano said) t = same-outcome (fromDateTime epoch year month day hour min sec nano) said t
-holds (reads epoch said outcome) t = same-outcome (readText 2147483647 epoch (bytes said)) outcome t
+holds (reads epoch said outcome) t = same-outcome (readText yearLimit epoch (bytes said)) outcome t
 holds (adds secs nanos dsecs dnanos said) t = same-outcome (added secs nanos dsecs dnanos) said t
 
 -- ---- the whole table by one test

@@ -6,19 +6,19 @@ use lib.Dec.{T, ltb, leb}
 use lib.IntN.{ℤ, pos, negsuc, _+ℤ_, _-ℤ_}
 use lib.ListN.{length}
 use Rattle.integers.specs.Integers.{isI64, floorDiv}
-use Rattle.errors.specs.Refusals.{Refusal, refusal, Outcome, gives, refuses, refusesInRangeError, ofParse}
+use Rattle.errors.specs.Refusals.{Refusal, refusal, Outcome, gives, refuses, refusesInRangeError, ofParse, check}
 use Rattle.errors.specs.declared.DateTimeError.the-variants.{InvalidMonth, InvalidDayOfMonth, InvalidHour, InvalidMinute, InvalidSecond, InvalidNanosecond, OutOfRange}
 use Rattle.errors.specs.declared.ParseDateTimeError.{ParseDateTimeError}
 use Rattle.errors.specs.declared.ParseDateTimeError.the-variants.{MissingField, InvalidFieldWidth, InvalidFieldValue, RangeError}
 use Rattle.calendar.specs.Walk.{monthLength}
 use Rattle.moments.specs.Moments.{secondsOf}
-use Rattle.counts.specs.Counts.{check, representable, goodNanos, withNanos, newTime, dateTimeSecs, fromDateTime, fromUnix, toUnix, overEpoch, timeAt, durationAt, added, taken, since, compared}
+use Rattle.counts.specs.Counts.{representable, goodNanos, withNanos, newTime, dateTimeSecs, fromDateTime, fromUnix, toUnix, overEpoch, timeAt, durationAt, added, taken, since, compared}
 use Rattle.stages.specs.Text.{parsed}
 use Rattle.reader.specs.Stamp.{inRangeError, stamped, readText}
 use Rattle.stages.specs.declared.Parsed.{Parsed}
 use Rattle.stages.specs.declared.Parsed.the-variants as Parsed
 use Rattle.printed_parts.specs.declared.Precision.{Precision}
-use Rattle.printer.specs.Line.{byRoom, answer}
+use Rattle.printer.specs.Lent.{byRoom, answer}
 use Rattle.printer.specs.Display.{timeText, displayed}
 use Rattle.demands.specs.Values.{moment}
 use Rattle.demands.specs.Refused.{isAmong, OnlyRefuses, a-value, a-refusal, in-range-error}
@@ -153,6 +153,6 @@ displayed-only secs nanos epoch precision line at = go (ltb nanos 1000000000)
     text : List ℕ
     text = timeText secs nanos epoch precision
 
-    go : (b : Bool) → OnlyRefuses (11 ∷ 12 ∷ 13 ∷ []) [] (cond {A = Outcome ℕ × List ℕ} b (answer line at text, Rattle.printer.specs.Line.lineAfter line at text) (refuses (refusal 11 []), line) .0)
+    go : (b : Bool) → OnlyRefuses (11 ∷ 12 ∷ 13 ∷ []) [] (cond {A = Outcome ℕ × List ℕ} b (answer line at text, Rattle.printer.specs.Lent.lineAfter line at text) (refuses (refusal 11 []), line) .0)
     go true = answer-only line at text
     go false = a-refusal tt

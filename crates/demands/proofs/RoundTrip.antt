@@ -4,6 +4,7 @@ use Prim.Native.Nat.{ℕ, _-_, _^_, _≤_, _<_}
 use native.Mathlib.Omega.{arith}
 use lib.IntN.{ℤ, natAbs, _+ℤ_}
 use Rattle.errors.specs.Refusals.{gives}
+use Rattle.errors.proofs.Outcomes.{gives-one}
 use Rattle.calendar.specs.declared.Date.{Date}
 use Rattle.moments.specs.declared.Moment.{Moment}
 use Rattle.calendar.specs.Walk.{isLeap, monthLength, Valid}
@@ -12,9 +13,8 @@ use Rattle.calendar.proofs.Months.{month-top}
 use Rattle.moments.proofs.Moments.{moment-valid, year-within}
 use Rattle.reader.specs.Stamp.{inRangeError, stamped, readText}
 use Rattle.printed_parts.specs.declared.Precision.the-variants.{Default}
-use Rattle.printer.specs.Display.{stamp, timeText}
+use Rattle.printer.specs.Display.{instant, timeText}
 use Rattle.demands.specs.Values.{I64, Timestamp}
-use Rattle.demands.proofs.Passed.{gives-one}
 use Rattle.demands.proofs.Integers.{fits}
 use Rattle.demands.proofs.DatesWalked.{accepted}
 use Rattle.demands.proofs.TextBack.{Printable, text-back}
@@ -24,7 +24,7 @@ day-top : (d : Date) → Valid d → d .day ≤ 31
 unfolding monthLength
 day-top d v = omega (arith, v .day-to, month-top (isLeap (d .year)) (d .month - 1) (omega (arith, v .month-from, v .month-to)))
 
-printable : (limit : ℕ) (m : Moment) (nanos : ℕ) → Valid (m .date) → ValidTime (m .time) → natAbs (m .date .year) ≤ limit → natAbs (m .date .year) < 10 ^ 20 → nanos < 1000000000 → Printable limit (stamp m nanos)
+printable : (limit : ℕ) (m : Moment) (nanos : ℕ) → Valid (m .date) → ValidTime (m .time) → natAbs (m .date .year) ≤ limit → natAbs (m .date .year) < 10 ^ 20 → nanos < 1000000000 → Printable limit (instant m nanos)
 printable limit m nanos v t h k n =
     record {
       year = h;
@@ -44,7 +44,7 @@ unfolding readText timeText
 back limit secs nanos epoch t h k =
     let m = momentAt (secs +ℤ epoch) in
     let v = moment-valid (secs +ℤ epoch) in
-    ap (stamped epoch) (text-back limit (stamp m nanos) (printable limit m nanos (v .0) (v .1) h k (t .nanos-to)))
+    ap (stamped epoch) (text-back limit (instant m nanos) (printable limit m nanos (v .0) (v .1) h k (t .nanos-to)))
     ∙ ap inRangeError (accepted epoch (m .date .year) (m .date .month) (m .date .day) (m .time .hour) (m .time .minute) (m .time .second) nanos secs nanos .1 (record { secs-fit = t .secs-fit; walked = refl }, refl, t .nanos-to))
 
 -- DIFFERENT TIMESTAMPS PRINT DIFFERENTLY: a reader of any year would give each back

@@ -12,7 +12,7 @@ use Rattle.stages.specs.Text.{fromMonth, withoutSign, parsed}
 use Rattle.fields.specs.declared.Delimiter.the-variants.{Hyphen, SpaceOrT, Colon}
 use Rattle.stages.specs.declared.DateTime.{DateTime}
 use Rattle.stages.specs.declared.Parsed.the-variants.{Fields}
-use Rattle.printer.specs.declared.Stamp.{Stamp}
+use Rattle.printer.specs.declared.Instant.{Instant}
 use Rattle.printed_parts.specs.declared.Precision.the-variants.{Default}
 use Rattle.digits.specs.Digits.{digits, width}
 use Rattle.digits.proofs.Width.{width-least}

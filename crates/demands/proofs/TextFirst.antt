@@ -122,11 +122,6 @@ module _ (limit : ℕ) (epoch : ℤ) (text : List ℕ) where
   unfolding readText
   text-refused h = ap (stamped epoch) h
 
-  pub text-read : {f : DateTime} → parsed limit text ≡ Fields f
-      → readText limit epoch text ≡ inRangeError (fromDateTime epoch (f .year) (f .month) (f .day) (f .hour) (f .min) (f .sec) (f .nano))
-  unfolding readText
-  text-read h = ap (stamped epoch) h
-
   -- a RangeError tells that the whole text was read
   pub read-whole : {r : Refusal} → readText limit epoch text ≡ refusesInRangeError r
       → (f : DateTime) × (parsed limit text ≡ Fields f) × (fromDateTime epoch (f .year) (f .month) (f .day) (f .hour) (f .min) (f .sec) (f .nano) ≡ refuses r)

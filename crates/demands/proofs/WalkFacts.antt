@@ -12,7 +12,7 @@ use Rattle.integers.proofs.Floor.{floor-law, floor-one, floor-add}
 use Rattle.calendar.specs.declared.Date.{Date}
 use Rattle.calendar.specs.Walk.{divides, isLeap, monthRow, monthLength, date, next, prev, start, walk}
 use Rattle.calendar.specs.Closed.{yearLength, leapYears, yearStart, sumTo, dayOfYear, dayNumber}
-use Rattle.moments.specs.Moments.{timeAt, momentAt, ValidTime, secondOfDay}
+use Rattle.moments.specs.Moments.{timeOfDay, momentAt, ValidTime, secondOfDay}
 use Rattle.calendar.proofs.Months.{length-some, sum-zero}
 use Rattle.calendar.proofs.Years.{start-step}
 use Rattle.calendar.proofs.Walk.{walk-valid, next-prev, prev-next, day-law, day-walk, reads}
@@ -88,7 +88,7 @@ unfolding dayNumber dayOfYear monthLength monthRow isLeap divides yearStart leap
 day-60-of-year-0 = sym (reads (date (pos 0) 2 29) (negℤ (pos 719469)) (record { month-from = omega arith; month-to = omega arith; day-from = omega arith; day-to = omega arith }) refl)
 
 pub seconds-of-year-0 : momentAt (negℤ (pos 62167219200)) ≡ moment (pos 0) 1 1 0 0 0
-unfolding momentAt timeAt floorDiv floorMod
+unfolding momentAt timeOfDay floorDiv floorMod
 seconds-of-year-0 = λ i. record { date = walk-to-year-0 i; time = record { hour = 0; minute = 0; second = 0 } }
 
 -- ---- the cycle in seconds
@@ -98,9 +98,9 @@ unfolding momentAt
 seconds-cycle z =
     let o = floor-one (floor-law 86400 (z +ℤ pos 12622780800) (omega arith)) (floor-add (pos 146097) (floor-law 86400 z (omega arith))) in
     let d = ap walk (o .0) ∙ walk-cycle (floorDiv 86400 z) in
-    λ i. record { date = d i; time = timeAt (o .1 i) }
+    λ i. record { date = d i; time = timeOfDay (o .1 i) }
 
 -- ---- the time of day
-pub time-of : (n : ℕ) → n < 86400 → ValidTime (timeAt n) × (secondOfDay (timeAt n) ≡ n)
-unfolding timeAt secondOfDay
+pub time-of : (n : ℕ) → n < 86400 → ValidTime (timeOfDay n) × (secondOfDay (timeOfDay n) ≡ n)
+unfolding timeOfDay secondOfDay
 time-of n h = (record { hour-to = omega arith; minute-to = omega arith; second-to = omega arith }, omega arith)

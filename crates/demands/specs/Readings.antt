@@ -2,21 +2,15 @@
 use mathlib.Core.Path.{_≡_}
 use mathlib.Core.List.{List, [], _∷_}
 use Prim.Native.Nat.{ℕ}
-use Prim.Native.Char.{code}
 use Prim.Native.String.{String}
-use Prim.Native.String as String
 use lib.IntN.{ℤ, pos, negℤ}
 use Rattle.errors.specs.Refusals.{Outcome, gives, refuses, refusal}
 use Rattle.counts.specs.Counts.{fromDateTime, added}
-use Rattle.reader.specs.Stamp.{readText}
+use Rattle.reader.specs.Stamp.{readText, yearLimit}
 use Rattle.printed_parts.specs.declared.Precision.the-variants.{Default}
-use Rattle.printer.specs.Line.{answer, lineAfter}
+use Rattle.printer.specs.Lent.{answer, lineAfter}
 use Rattle.printer.specs.Display.{displayed}
-
--- the bytes of a quoted text (of ASCII)
-abbrev pub bytes : String → List ℕ
-bytes String.[] = []
-bytes (String._∷_ c s) = code c ∷ bytes s
+use Rattle.texts.specs.Texts.{bytes}
 
 pub data Reading : Type 0 where
   -- epoch, seconds, nanoseconds, and the text that is printed by default
@@ -33,7 +27,7 @@ abbrev pub Holds : Reading → Type 0
 Holds (prints epoch secs nanos text) =
     (line : List ℕ) (at : ℕ) → displayed secs nanos epoch Default line at ≡ (answer line at (bytes text), lineAfter line at (bytes text))
 Holds (counts epoch year month day hour min sec nano said) = fromDateTime epoch year month day hour min sec nano ≡ said
-Holds (reads epoch text said) = readText 2147483647 epoch (bytes text) ≡ said
+Holds (reads epoch text said) = readText yearLimit epoch (bytes text) ≡ said
 Holds (adds secs nanos dsecs dnanos said) = added secs nanos dsecs dnanos ≡ said
 
 -- every row of a table holds

@@ -17,9 +17,9 @@ use Rattle.moments.specs.Moments.{momentAt}
 use Rattle.moments.proofs.Moments.{year-within}
 use Rattle.counts.specs.Counts.{goodNanos}
 use Rattle.printed_parts.specs.declared.Precision.{Precision}
-use Rattle.printer.specs.Line.{answer, lineAfter}
+use Rattle.printer.specs.Lent.{answer, lineAfter}
 use Rattle.printer.specs.Display.{stamp, timeText, displayed}
-use Rattle.printer.proofs.Line.{room}
+use Rattle.printer.proofs.Lent.{room}
 use Rattle.printer.proofs.Text.{text-bound}
 use Rattle.texts.specs.Texts.{bytes, natural}
 use Rattle.answers.specs.Answers.{line}

@@ -6,7 +6,7 @@ use Prim.Native.String.{String}
 use lib.ListN.{getD}
 use Rattle.errors.specs.Refusals.{Outcome, gives}
 use Rattle.counts.specs.Counts.{goodNanos, newTime, fromDateTime, fromUnix, toUnix, overEpoch, added, taken, since, compared}
-use Rattle.reader.specs.Stamp.{readText}
+use Rattle.reader.specs.Stamp.{readText, yearLimit}
 use Rattle.printer.specs.Display.{timeText, displayed}
 use Rattle.texts.specs.Texts.{bytes, alike, natural, integer}
 use Rattle.texts.specs.Hex.{hexText}
@@ -36,8 +36,8 @@ rows =
     ∷ row "sub" (i64 ▸ u32 ▸ u64 ▸ u32 ▸ end) (λ secs nanos durationSecs durationNanos. timeLine (taken secs nanos durationSecs durationNanos))
     ∷ row "since" (i64 ▸ u32 ▸ i64 ▸ u32 ▸ end) (λ secs nanos fromSecs fromNanos. durationLine (since secs nanos fromSecs fromNanos))
     ∷ row "compare" (i64 ▸ u32 ▸ i64 ▸ u32 ▸ end) (λ secs nanos otherSecs otherNanos. line orderText (compared secs nanos otherSecs otherNanos))
-    ∷ row "read" (epoch ▸ rest) (λ start text. timeLine (readText 2147483647 start text))
-    ∷ row "read-hex" (epoch ▸ hex ▸ end) (λ start text. timeLine (readText 2147483647 start text))
+    ∷ row "read" (epoch ▸ rest) (λ start text. timeLine (readText yearLimit start text))
+    ∷ row "read-hex" (epoch ▸ hex ▸ end) (λ start text. timeLine (readText yearLimit start text))
     ∷ []
 
 -- what is answered to a word and what stands behind it

@@ -19,7 +19,7 @@ ghost use mathlib.Core.Path.{_≡_};
 ghost use Prim.Native.Nat.{_+_, _*_, _≤_, _<_};
 ghost use lib.ListN.{length};
 ghost use Rattle.printer.specs.Display.{displayed};
-ghost use Rattle.printer.specs.Line.{said};
+ghost use Rattle.printer.specs.Lent.{said};
 ghost use Rattle.texts.specs.Texts.{natural, Put};
 ghost use Rattle.answers.specs.Answers.{line};
 ghost use Rattle.answers.specs.Said.{saidText};

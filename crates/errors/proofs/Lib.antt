@@ -1,1 +1,3 @@
 pub mod One
+pub mod Told
+pub mod Outcomes

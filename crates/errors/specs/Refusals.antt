@@ -1,4 +1,5 @@
 -- Each refusal by its number and its values in document 01's table, "When the box says no".
+use mathlib.Core.Bool.{Bool, cond}
 use mathlib.Core.List.{List, [], _∷_}
 use Prim.Native.Nat.{ℕ}
 use lib.IntN.{ℤ, pos}
@@ -23,6 +24,10 @@ pub data Outcome (A : Type 0) : Type 0 where
   gives : A → Outcome A
   refuses : Refusal → Outcome A
   refusesInRangeError : Refusal → Outcome A
+
+-- the test holds, or the refusal is given
+abbrev pub check : {A : Type 0} → Bool → Refusal → Outcome A → Outcome A
+check test r rest = cond test rest (refuses r)
 
 abbrev pub ofDateTime : DateTimeError → Refusal
 ofDateTime (InvalidMonth month) = refusal 0 (pos month ∷ [])

@@ -6,6 +6,7 @@ use crate::PrintError;
 ghost use mathlib.Core.Bool.{false};
 ghost use mathlib.Core.Path.{_≡_};
 ghost use mathlib.Core.List.{[], _∷_};
+ghost use Prim.Native.Nat.{ℕ};
 ghost use lib.IntN.{pos};
 ghost use Rattle.errors.specs.Refusals.{refusal, refuses, ofDateTime, ofParse, ofCount, ofPrint};
 ghost use Rattle.errors.specs.Told.{marked, told};
@@ -20,7 +21,7 @@ pub struct Refusal {
 
 impl Refusal {
     pub fn bare(number: u8, in_range_error: bool) -> Refusal
-        ensures { λ r. ⌜ told r ≡ marked «in_range_error» (refusal number []) ⌝ }
+        ensures { λ r. ⌜ told {A = ℕ} r ≡ marked «in_range_error» (refusal number []) ⌝ }
     {
         Refusal {
             number,
@@ -31,7 +32,7 @@ impl Refusal {
     }
 
     pub fn valued(number: u8, in_range_error: bool, value: u32) -> Refusal
-        ensures { λ r. ⌜ told r ≡ marked «in_range_error» (refusal number (pos value ∷ [])) ⌝ }
+        ensures { λ r. ⌜ told {A = ℕ} r ≡ marked «in_range_error» (refusal number (pos value ∷ [])) ⌝ }
     {
         Refusal {
             number,
@@ -44,7 +45,7 @@ impl Refusal {
 
 impl DateTimeError {
     pub fn refusal(self, in_range_error: bool) -> Refusal
-        ensures { λ r. ⌜ told r ≡ marked «in_range_error» (ofDateTime self) ⌝ }
+        ensures { λ r. ⌜ told {A = ℕ} r ≡ marked «in_range_error» (ofDateTime self) ⌝ }
     {
         match self {
             DateTimeError::InvalidMonth(v) => Refusal::valued(0, in_range_error, v as u32),
@@ -60,7 +61,7 @@ impl DateTimeError {
 
 impl ParseDateTimeError {
     pub fn refusal(self) -> Refusal
-        ensures { λ r. ⌜ told r ≡ ofParse self ⌝ }
+        ensures { λ r. ⌜ told {A = ℕ} r ≡ ofParse self ⌝ }
     {
         match self {
             ParseDateTimeError::MissingField => Refusal::bare(7, false),
@@ -73,7 +74,7 @@ impl ParseDateTimeError {
 
 impl CountError {
     pub fn refusal(self) -> Refusal
-        ensures { λ r. ⌜ told r ≡ refuses (ofCount self) ⌝ }
+        ensures { λ r. ⌜ told {A = ℕ} r ≡ refuses (ofCount self) ⌝ }
     {
         match self {
             CountError::NotRepresentable => Refusal::bare(10, false),
@@ -84,7 +85,7 @@ impl CountError {
 
 impl PrintError {
     pub fn refusal(self) -> Refusal
-        ensures { λ r. ⌜ told r ≡ refuses (ofPrint self) ⌝ }
+        ensures { λ r. ⌜ told {A = ℕ} r ≡ refuses (ofPrint self) ⌝ }
     {
         match self {
             PrintError::BadNanos => Refusal::bare(11, false),

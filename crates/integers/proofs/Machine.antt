@@ -133,10 +133,6 @@ known64 z h = known (record { sfits = h })
 pub natural : {w : Width} {z : ℤ} → SFits w z → ltZ (toZ w (ofZ w z)) (pos 0) ≡ false → z ≡ pos (natAbs (toZ w (ofZ w z)))
 natural {w} {z} f e = sym (toZ-ofZ w z f) ∙ sym (pos-natAbs (toZ w (ofZ w z)) (cast-sign (toZ w (ofZ w z)) (omega (arith, lt-false))))
 
--- a remainder fits where its dividend does: the machine asks only that the quotient fits
-pub known-rem : {w : Width} {a : ℤ} (k : ℕ) → SFits w a → Known w (remZ (toZ w (ofZ w a)) (pos k))
-known-rem {w} {a} k f = known (sfits-le (mag-rem (toZ w (ofZ w a)) (pos k)) (subst (SFits w) (sym (toZ-ofZ w a f)) f))
-
 -- two numbers that fit, with their sum and their difference
 pub record Two (w : Width) (a b : ℤ) : Type 0 where
   pub left : Known w a
@@ -157,9 +153,6 @@ small-size {z = z} h = record { top = omega (arith, size-law z); low = omega (ar
 
 pub small-pos : {b : ℕ} (n : ℕ) → n ≤ b → Small b (pos n)
 small-pos n h = record { top = h; low = omega arith }
-
-pub small-back : {w : Width} {b : ℕ} {z : ℤ} → SFits w z → Small b z → Small b (toZ w (ofZ w z))
-small-back {w} {b} {z} f s = subst (Small b) (sym (toZ-ofZ w z f)) s
 
 pub small-add : {m n : ℕ} {a b : ℤ} → Small m a → Small n b → Small (m + n) (a +ℤ b)
 small-add {a = a} {b = b} s t = record { top = omega (arith, add-law a b, apart (a +ℤ b), s .top, t .top); low = omega (arith, add-law a b, apart (a +ℤ b), s .low, t .low) }

@@ -8,8 +8,8 @@ use native.Mathlib.Nat.{zero-div, zero-mod}
 use native.Mathlib.Omega.{arith}
 use lib.Dec.{T, ltb}
 use lib.IntN.{ℤ, pos, negsuc, negℤ, subℕ, sucℤ, natAbs, _+ℤ_, _-ℤ_, _*ℤ_}
-use lib.Signed.{ltZ, quotZ, remZ, _<ℤ_}
-use borrow.Author.Tests.{ltb-true, ltb-false, lt-ltb, le-ltb}
+use lib.Signed.{ltZ, leZ, quotZ, remZ, _<ℤ_}
+use borrow.Author.Tests.{leb-true, ltb-true, ltb-false, lt-ltb, le-ltb}
 
 abbrev pub plus : ℤ → ℕ
 plus (pos n) = n
@@ -26,6 +26,10 @@ Is z p m = plus z + m ≡ p + minus z
 pub apart : (z : ℤ) → min (plus z) (minus z) ≡ 0
 apart (pos n) = omega arith
 apart (negsuc n) = omega arith
+
+pub neg-size : (n : ℕ) → (plus (negℤ (pos n)) ≡ 0) × (minus (negℤ (pos n)) ≡ n)
+neg-size zero = (refl, refl)
+neg-size (suc n) = (refl, refl)
 
 -- ---- equality
 pub eqZ : (a b : ℤ) → plus a + minus b ≡ plus b + minus a → a ≡ b
@@ -91,6 +95,12 @@ lt-true (pos a) (pos b) h = omega (arith, ltb-true)
 lt-true (pos a) (negsuc b) h = absurd (subst T (sym h) tt)
 lt-true (negsuc a) (pos b) h = omega arith
 lt-true (negsuc a) (negsuc b) h = omega (arith, ltb-true)
+
+pub le-true : (a b : ℤ) → leZ a b ≡ true → plus a + minus b ≤ plus b + minus a
+le-true (pos a) (pos b) h = omega (arith, leb-true)
+le-true (pos a) (negsuc b) h = absurd (subst T (sym h) tt)
+le-true (negsuc a) (pos b) h = omega arith
+le-true (negsuc a) (negsuc b) h = omega (arith, leb-true)
 
 pub lt-false : (a b : ℤ) → ltZ a b ≡ false → plus b + minus a ≤ plus a + minus b
 lt-false (pos a) (pos b) h = omega (arith, ltb-false)

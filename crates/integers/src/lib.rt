@@ -177,7 +177,7 @@ pub fn to_bits(x: i64) -> u64
 }
 
 // The number that has these 64 bits.
-pub fn from_bits(bits: u64) -> i64
+fn from_bits(bits: u64) -> i64
     ensures { λ r. ⌜ r ≡ toZ w64 bits ⌝ }
 {
     if bits < 9223372036854775808 {

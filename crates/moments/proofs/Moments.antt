@@ -18,19 +18,12 @@ use Rattle.moments.specs.declared.Time.{Time}
 use Rattle.moments.specs.declared.Moment.{Moment}
 use Rattle.calendar.specs.Walk.{isLeap, Valid, walk}
 use Rattle.calendar.specs.Closed.{yearStart, dayOfYear, dayNumber}
-use Rattle.moments.specs.Moments.{timeAt, momentAt, ValidTime, secondOfDay, secondsOf, EarlierMoment, by-date, by-hour, by-minute, by-second}
+use Rattle.moments.specs.Moments.{timeOfDay, momentAt, ValidTime, secondOfDay, secondsOf, EarlierMoment, by-date, by-hour, by-minute, by-second}
 use Rattle.calendar.proofs.Years.{some-length, start-near, start-far}
 use Rattle.calendar.proofs.Months.{day-of-year-end}
 use Rattle.calendar.proofs.Walk.{day-law, walk-valid, day-walk, walk-day, walk-order}
 
 -- ---- sizes
--- the machine's test, to a fact
-pub le-true : (a b : ℤ) → leZ a b ≡ true → plus a + minus b ≤ plus b + minus a
-le-true (pos a) (pos b) h = omega (arith, leb-true)
-le-true (pos a) (negsuc b) h = absurd (subst T (sym h) tt)
-le-true (negsuc a) (pos b) h = omega arith
-le-true (negsuc a) (negsuc b) h = omega (arith, leb-true)
-
 pub day-near : (d : Date) → Valid d → natAbs (dayNumber d) ≤ natAbs (d .year) * 368 + 800000
 unfolding dayNumber
 day-near d v =
@@ -52,16 +45,16 @@ seconds-near m h v t =
     omega (arith, day-near (m .date) v, second-within (m .time) t, size-law y, size-law z, apart z, times-law y 86400, add-law (y *ℤ pos 86400) n)
 
 -- ---- the time of day
-time-valid : (n : ℕ) → n < 86400 → ValidTime (timeAt n)
-unfolding timeAt
+time-valid : (n : ℕ) → n < 86400 → ValidTime (timeOfDay n)
+unfolding timeOfDay
 time-valid n h = record { hour-to = omega arith; minute-to = omega arith; second-to = omega arith }
 
-second-time : (n : ℕ) → secondOfDay (timeAt n) ≡ n
-unfolding secondOfDay timeAt
+second-time : (n : ℕ) → secondOfDay (timeOfDay n) ≡ n
+unfolding secondOfDay timeOfDay
 second-time n = omega arith
 
-time-second : (t : Time) → ValidTime t → timeAt (secondOfDay t) ≡ t
-unfolding secondOfDay timeAt
+time-second : (t : Time) → ValidTime t → timeOfDay (secondOfDay t) ≡ t
+unfolding secondOfDay timeOfDay
 time-second t v =
     let h : (t .hour * 3600 + t .minute * 60 + t .second) / 3600 ≡ t .hour = omega (arith, v .minute-to, v .second-to) in
     let m : (t .hour * 3600 + t .minute * 60 + t .second) / 60 % 60 ≡ t .minute = omega (arith, v .minute-to, v .second-to) in
@@ -76,7 +69,7 @@ day-of z = floor-law 86400 z (omega arith)
 pub seconds-moment : (z : ℤ) → secondsOf (momentAt z) ≡ z
 unfolding secondsOf momentAt
 seconds-moment z =
-    ap (λ n. n *ℤ pos 86400 +ℤ pos (secondOfDay (timeAt (floorMod 86400 z)))) (day-walk (floorDiv 86400 z)) ∙ ap (λ n. floorDiv 86400 z *ℤ pos 86400 +ℤ pos n) (second-time (floorMod 86400 z)) ∙ sym (day-of z .whole)
+    ap (λ n. n *ℤ pos 86400 +ℤ pos (secondOfDay (timeOfDay (floorMod 86400 z)))) (day-walk (floorDiv 86400 z)) ∙ ap (λ n. floorDiv 86400 z *ℤ pos 86400 +ℤ pos n) (second-time (floorMod 86400 z)) ∙ sym (day-of z .whole)
 
 -- AND A COUNT ITS MOMENT
 pub moment-seconds : (m : Moment) → Valid (m .date) → ValidTime (m .time) → momentAt (secondsOf m) ≡ m
@@ -85,7 +78,7 @@ moment-seconds m v w =
     let f : Floor 86400 (secondsOf m) (dayNumber (m .date)) (secondOfDay (m .time)) = record { whole = refl; small = second-within (m .time) w } in
     let o = floor-one (day-of (secondsOf m)) f in
     let d = ap walk (o .0) ∙ walk-day (m .date) v in
-    let t = ap timeAt (o .1) ∙ time-second (m .time) w in
+    let t = ap timeOfDay (o .1) ∙ time-second (m .time) w in
     λ i. record { date = d i; time = t i }
 
 pub moment-valid : (z : ℤ) → Valid (momentAt z .date) × ValidTime (momentAt z .time)
@@ -93,11 +86,11 @@ unfolding momentAt
 moment-valid z = (walk-valid (floorDiv 86400 z), time-valid (floorMod 86400 z) (day-of z .small))
 
 -- AN EARLIER COUNT IS AN EARLIER MOMENT
-earlier-time : (d e : Date) (m n : ℕ) → d ≡ e → m < n → EarlierMoment (record { date = d; time = timeAt m }) (record { date = e; time = timeAt n })
-unfolding timeAt
+earlier-time : (d e : Date) (m n : ℕ) → d ≡ e → m < n → EarlierMoment (record { date = d; time = timeOfDay m }) (record { date = e; time = timeOfDay n })
+unfolding timeOfDay
 earlier-time d e m n p h = go (tri (m / 3600) (n / 3600)) (tri (m / 60 % 60) (n / 60 % 60))
   where
-    go : Tri (m / 3600 < n / 3600) (m / 3600 ≡ n / 3600) (n / 3600 < m / 3600) → Tri (m / 60 % 60 < n / 60 % 60) (m / 60 % 60 ≡ n / 60 % 60) (n / 60 % 60 < m / 60 % 60) → EarlierMoment (record { date = d; time = timeAt m }) (record { date = e; time = timeAt n })
+    go : Tri (m / 3600 < n / 3600) (m / 3600 ≡ n / 3600) (n / 3600 < m / 3600) → Tri (m / 60 % 60 < n / 60 % 60) (m / 60 % 60 ≡ n / 60 % 60) (n / 60 % 60 < m / 60 % 60) → EarlierMoment (record { date = d; time = timeOfDay m }) (record { date = e; time = timeOfDay n })
     go (before l) t = by-hour p l
     go (after l) t = absurd (omega arith)
     go (same q) (before l) = by-minute p q l
@@ -120,12 +113,12 @@ days-of-cycles {z} {q} {r} f =
     let d = pos (r / 86400) in
     to-floor (omega (arith, splits f, add-law z (pos 62167219200), times-law q 146097, add-law x d, diff-law (x +ℤ d) (pos 719528))) (omega arith)
 
-pub moment-of : {z : ℤ} {q : ℤ} {r : ℕ} (d : Date) (t : Time) → Floor 86400 z q r → d ≡ walk q → t ≡ timeAt r → record { date = d; time = t } ≡ momentAt z
+pub moment-of : {z : ℤ} {q : ℤ} {r : ℕ} (d : Date) (t : Time) → Floor 86400 z q r → d ≡ walk q → t ≡ timeOfDay r → record { date = d; time = t } ≡ momentAt z
 unfolding momentAt
 moment-of {z} d t f e g =
     let o = floor-one f (day-of z) in
     let p = e ∙ ap walk (o .0) in
-    let q = g ∙ ap timeAt (o .1) in
+    let q = g ∙ ap timeOfDay (o .1) in
     λ i. record { date = p i; time = q i }
 
 -- ---- the years that two i64's sum can reach

@@ -10,12 +10,12 @@ use Rattle.calendar.specs.Walk.{walk, Earlier}
 use Rattle.calendar.specs.Closed.{dayNumber}
 
 -- the time at a second of the day
-unfoldable pub timeAt : ℕ → Time
-timeAt n = record { hour = n / 3600; minute = n / 60 % 60; second = n % 60 }
+unfoldable pub timeOfDay : ℕ → Time
+timeOfDay n = record { hour = n / 3600; minute = n / 60 % 60; second = n % 60 }
 
 -- the moment at a count of seconds: the walk goes the whole days, rounded down, and the rest is the time
 unfoldable pub momentAt : ℤ → Moment
-momentAt z = record { date = walk (floorDiv 86400 z); time = timeAt (floorMod 86400 z) }
+momentAt z = record { date = walk (floorDiv 86400 z); time = timeOfDay (floorMod 86400 z) }
 
 -- a time that exists
 pub record ValidTime (t : Time) : Type 0 where

@@ -15,7 +15,7 @@ ghost use Prim.Native.Nat.{_≤_, _<_};
 ghost use lib.IntN.{natAbs, pos, _+ℤ_, _-ℤ_};
 ghost use Rattle.integers.specs.Integers.{Floor, checked};
 ghost use Rattle.calendar.specs.Walk.{Valid};
-ghost use Rattle.moments.specs.Moments.{timeAt, momentAt, ValidTime, secondOfDay, secondsOf};
+ghost use Rattle.moments.specs.Moments.{timeOfDay, momentAt, ValidTime, secondOfDay, secondsOf};
 
 pub struct Time {
     pub hour: u8,
@@ -36,7 +36,7 @@ const SECS_TO_1970: i64 = 62167219200;
 
 fn time_at(second: u32) -> Time
     requires { ⌜ second < 86400 ⌝ }
-    ensures { λ r. ⌜ r ≡ timeAt second ⌝ }
+    ensures { λ r. ⌜ r ≡ timeOfDay second ⌝ }
 {
     Time {
         hour: (second / 3600) as u8,
@@ -81,7 +81,7 @@ fn second_of_day(t: Time) -> u64
 }
 
 // The seconds at a moment, where the year is so near that an i64 holds them.
-pub fn secs_from_1970(m: Moment) -> i64
+fn secs_from_1970(m: Moment) -> i64
     requires { ⌜ (natAbs (m .date .year) ≤ 10_000_000_000) × Valid (m .date) × ValidTime (m .time) ⌝ }
     ensures { λ r. ⌜ r ≡ secondsOf m ⌝ }
 {

@@ -1,3 +1,3 @@
 pub mod Text
-pub mod Line
+pub mod Lent
 pub mod Display

@@ -17,11 +17,11 @@ ghost use lib.Seq.{sets};
 ghost use Rattle.printed_parts.specs.Text.{dash, point};
 ghost use Rattle.printed_parts.specs.Parts.{Bounded, partText};
 ghost use Rattle.printer.specs.Text.{fieldsText, text, Ranged};
-ghost use Rattle.printer.specs.Line.{said, answer, lineAfter};
+ghost use Rattle.printer.specs.Lent.{said, answer, lineAfter};
 ghost use Rattle.printer.specs.Display.{displayed};
 
 // What is printed: a date, a time of day, and the nanoseconds since its second began.
-pub struct Stamp {
+pub struct Instant {
     pub year: i64,
     pub month: u8,
     pub day: u8,
@@ -38,7 +38,7 @@ pub enum Printed {
 }
 
 // `-MM-DD hh:mm:ss`, from at on.
-fn put_fields(s: &mut [u8], at: usize, t: Stamp)
+fn put_fields(s: &mut [u8], at: usize, t: Instant)
     requires { ⌜ at + 15 ≤ length (now s) ⌝ }
     ensures { λ _. ⌜ now (s .exit) ≡ sets (now (s .entry)) at (fieldsText t) ⌝ }
 {
@@ -50,7 +50,7 @@ fn put_fields(s: &mut [u8], at: usize, t: Stamp)
 }
 
 // The year, the five fields and the fraction, from the front of s on.
-fn put_text(s: &mut [u8], year: Part, t: Stamp, fraction: Part)
+fn put_text(s: &mut [u8], year: Part, t: Instant, fraction: Part)
     requires { ⌜ Bounded year × Bounded fraction ⌝ }
     requires { ⌜ length (partText dash year) + 15 + length (partText point fraction) ≤ length (now s) ⌝ }
     ensures { λ _. ⌜ now (s .exit) ≡ sets (now (s .entry)) 0 (partText dash year ++ fieldsText t ++ partText point fraction) ⌝ }
@@ -61,7 +61,7 @@ fn put_text(s: &mut [u8], year: Part, t: Stamp, fraction: Part)
 }
 
 // The text of t in the line, from the place `at` on. Its length is known before a byte is written.
-pub fn print_at(t: Stamp, precision: Precision, line: &mut [u8], at: usize) -> Printed
+fn print_at(t: Instant, precision: Precision, line: &mut [u8], at: usize) -> Printed
     requires { ⌜ Ranged t ⌝ }
     ensures { λ r. ⌜ said r ≡ answer (now (line .entry)) at (text t precision) ⌝ }
     ensures { λ _. ⌜ now (line .exit) ≡ lineAfter (now (line .entry)) at (text t precision) ⌝ }
@@ -96,7 +96,7 @@ pub fn display(
     let m = secs_to_date_time(t.secs, epoch.0);
     let date = m.date;
     let time = m.time;
-    let stamp = Stamp {
+    let instant = Instant {
         year: date.year,
         month: date.month,
         day: date.day,
@@ -105,5 +105,5 @@ pub fn display(
         second: time.second,
         nanos,
     };
-    print_at(stamp, precision, line, at)
+    print_at(instant, precision, line, at)
 }

@@ -26,6 +26,10 @@ stamped epoch (Parsed.Fields f) =
     inRangeError (fromDateTime epoch (f .year) (f .month) (f .day) (f .hour) (f .min) (f .sec) (f .nano))
 stamped epoch (Parsed.Refused e) = ofParse e
 
+-- the size of a year in a text is at most this
+abbrev pub yearLimit : ℕ
+yearLimit = 2147483647
+
 -- what reading a text over an epoch answers, where the size of a year is at most the limit
 unfoldable pub readText : ℕ → ℤ → List ℕ → Outcome (ℤ × ℕ)
 readText limit epoch text = stamped epoch (parsed limit text)

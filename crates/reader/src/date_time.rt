@@ -13,7 +13,7 @@ ghost use Prim.Native.Nat.{_^_, _<_};
 ghost use Rattle.stages.specs.Text.{parsed};
 
 // The size of the year is at most limit.
-pub fn parse_date_time(text: &[u8], limit: u64) -> Parsed
+pub(crate) fn parse_date_time(text: &[u8], limit: u64) -> Parsed
     requires { ⌜ limit < 2 ^ 63 ⌝ }
     ensures { λ r. ⌜ r ≡ parsed limit (now (text .entry)) ⌝ }
 {

@@ -1,6 +1,6 @@
 // Reading a timestamp's text.
-pub mod date_time; // the whole text
-pub mod stamp; // the timestamp
+mod date_time; // the whole text
+mod stamp; // the timestamp
 
 pub use stamp::ReadAnswer;
 pub use stamp::from_str;

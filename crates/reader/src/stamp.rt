@@ -7,7 +7,10 @@ use counts::date_time_secs;
 use errors::ParseDateTimeError;
 use stages::Parsed;
 ghost use mathlib.Core.Path.{_≡_};
-ghost use Rattle.reader.specs.Stamp.{saidRead, readText};
+ghost use Rattle.reader.specs.Stamp.{saidRead, readText, yearLimit};
+
+// The size of a year in a text is at most this.
+const YEAR_LIMIT: u64 = 2147483647;
 
 pub enum ReadAnswer {
     At(TaiTime),
@@ -16,9 +19,9 @@ pub enum ReadAnswer {
 
 // The date's rules are asked once the whole text was read.
 pub fn from_str(text: &[u8], epoch: Epoch) -> ReadAnswer
-    ensures { λ r. ⌜ saidRead r ≡ readText 2147483647 (epoch .0) (now (text .entry)) ⌝ }
+    ensures { λ r. ⌜ saidRead r ≡ readText yearLimit (epoch .0) (now (text .entry)) ⌝ }
 {
-    match parse_date_time(text, 2147483647) {
+    match parse_date_time(text, YEAR_LIMIT) {
         Parsed::Refused(e) => ReadAnswer::Refused(e),
         Parsed::Fields(f) => {
             match date_time_secs(

@@ -1,4 +1,4 @@
--- How an outcome crosses to C and Rust: the refusal's number of document 01, or -1 where there is none.
+-- How an outcome crosses to C and Rust: the refusal's number, or -1 where there is none, and beside it what is given.
 use mathlib.Core.List.{List}
 use Prim.Native.Nat.{ℕ, zero, suc}
 use lib.IntN.{ℤ, pos, negsuc, natAbs}
@@ -10,33 +10,47 @@ use Rattle.moments.specs.declared.Moment.{Moment}
 use Rattle.printed_parts.specs.declared.Precision.{Precision}
 use Rattle.printed_parts.specs.declared.Precision.the-variants.{Default, Digits}
 use Rattle.records_box.specs.declared.TimeResult.{TimeResult}
+use Rattle.records_box.specs.declared.UnixResult.{UnixResult}
 use Rattle.records_box.specs.declared.DurationResult.{DurationResult}
 use Rattle.records_box.specs.declared.OrderingResult.{OrderingResult}
 use Rattle.records_box.specs.declared.LengthResult.{LengthResult}
 use Rattle.records_box.specs.declared.MomentResult.{MomentResult}
 
--- the refusal's first value, 0 where it has none
-abbrev pub valueOf : Refusal → ℕ
-valueOf r = natAbs (getD (r .values) 0 (pos 0))
+abbrev pub numberOr : {A : Type 0} → Outcome A → ℤ
+numberOr (gives x) = negsuc 0
+numberOr (refuses r) = pos (r .number)
+numberOr (refusesInRangeError r) = pos (r .number)
 
-abbrev pub refusedTime : ℤ → ℕ → ℤ → TimeResult
-refusedTime number value inside = record { refusal = number; «in_range_error» = inside; value = value; nanos = 0; secs = pos 0 }
+-- what is given, and of a refusal the zero of its kind
+abbrev pub givenOr : {A : Type 0} → A → Outcome A → A
+givenOr none (gives x) = x
+givenOr none (refuses r) = none
+givenOr none (refusesInRangeError r) = none
+
+-- the refusal's first value, 0 where it has none
+abbrev pub firstValue : Refusal → ℕ
+firstValue r = natAbs (getD (r .values) 0 (pos 0))
+
+abbrev pub valueOf : {A : Type 0} → Outcome A → ℕ
+valueOf (gives x) = 0
+valueOf (refuses r) = firstValue r
+valueOf (refusesInRangeError r) = firstValue r
+
+-- 1 where a text's date was refused
+abbrev pub inRangeError : {A : Type 0} → Outcome A → ℤ
+inRangeError (gives x) = pos 0
+inRangeError (refuses r) = pos 0
+inRangeError (refusesInRangeError r) = pos 1
 
 abbrev pub timeResult : Outcome (ℤ × ℕ) → TimeResult
-timeResult (gives t) = record { refusal = negsuc 0; «in_range_error» = pos 0; value = 0; nanos = t .1; secs = t .0 }
-timeResult (refuses r) = refusedTime (pos (r .number)) (valueOf r) (pos 0)
-timeResult (refusesInRangeError r) = refusedTime (pos (r .number)) (valueOf r) (pos 1)
+timeResult o =
+    record { refusal = numberOr o; «in_range_error» = inRangeError o; value = valueOf o; nanos = givenOr (pos 0, 0) o .1; secs = givenOr (pos 0, 0) o .0 }
 
--- a count of seconds is said as a time with no nanoseconds
-abbrev pub secsResult : Outcome ℤ → TimeResult
-secsResult (gives secs) = timeResult (gives (secs, 0))
-secsResult (refuses r) = timeResult (refuses r)
-secsResult (refusesInRangeError r) = timeResult (refusesInRangeError r)
+abbrev pub unixResult : Outcome ℤ → UnixResult
+unixResult o = record { refusal = numberOr o; secs = givenOr (pos 0) o }
 
 abbrev pub durationResult : Outcome (ℕ × ℕ) → DurationResult
-durationResult (gives d) = record { refusal = negsuc 0; nanos = d .1; secs = d .0 }
-durationResult (refuses r) = record { refusal = pos (r .number); nanos = 0; secs = 0 }
-durationResult (refusesInRangeError r) = record { refusal = pos (r .number); nanos = 0; secs = 0 }
+durationResult o = record { refusal = numberOr o; nanos = givenOr (0, 0) o .1; secs = givenOr (0, 0) o .0 }
 
 -- -1, 0 or 1: the first is earlier, the same, or later
 abbrev pub sign : Ordering → ℤ
@@ -45,14 +59,10 @@ sign Equal = pos 0
 sign Greater = pos 1
 
 abbrev pub orderingResult : Outcome Ordering → OrderingResult
-orderingResult (gives o) = record { refusal = negsuc 0; ordering = sign o }
-orderingResult (refuses r) = record { refusal = pos (r .number); ordering = pos 0 }
-orderingResult (refusesInRangeError r) = record { refusal = pos (r .number); ordering = pos 0 }
+orderingResult o = record { refusal = numberOr o; ordering = sign (givenOr Equal o) }
 
 abbrev pub lengthResult : Outcome ℕ → LengthResult
-lengthResult (gives n) = record { refusal = negsuc 0; length = n }
-lengthResult (refuses r) = record { refusal = pos (r .number); length = 0 }
-lengthResult (refusesInRangeError r) = record { refusal = pos (r .number); length = 0 }
+lengthResult o = record { refusal = numberOr o; length = givenOr 0 o }
 
 abbrev pub momentResult : Moment → MomentResult
 momentResult m =

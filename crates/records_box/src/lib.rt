@@ -3,13 +3,19 @@ mod results;
 pub mod texts;
 pub mod times;
 
-// refusal: -1, or 01's number; value: the refusal's; in_range_error: 1 if a text's date was refused.
+// refusal: -1, or the number in the table of refusals; value: the refusal's; in_range_error: 1 if a text's date was refused.
 #[repr(C)]
 pub struct TimeResult {
     pub refusal: i32,
     pub in_range_error: i32,
     pub value: u32,
     pub nanos: u32,
+    pub secs: i64,
+}
+
+#[repr(C)]
+pub struct UnixResult {
+    pub refusal: i32,
     pub secs: i64,
 }
 

@@ -2,43 +2,35 @@
 use crate::LengthResult;
 use crate::MomentResult;
 use crate::TimeResult;
-use crate::results::date_refused;
 use crate::results::precision_of;
-use crate::results::print_number;
 use crate::results::refused;
 use crate::results::time;
 use counts::Epoch;
 use counts::TaiTime;
-use errors::ParseDateTimeError;
 use printer::Printed;
 use reader::ReadAnswer;
 ghost use mathlib.Core.Path.{_≡_};
 ghost use lib.IntN.{_+ℤ_};
 ghost use Rattle.moments.specs.Moments.{momentAt};
-ghost use Rattle.reader.specs.Stamp.{readText};
+ghost use Rattle.reader.specs.Stamp.{readText, yearLimit};
 ghost use Rattle.printer.specs.Display.{displayed};
 ghost use Rattle.records_box.specs.Results.{timeResult, momentResult, precisionOf, lineResult};
 
 #[no_mangle]
-pub extern "C" fn tai_from_str(text: &[u8], epoch: i64) -> TimeResult
-    ensures { λ r. ⌜ r ≡ timeResult (readText 2147483647 epoch (now (text .entry))) ⌝ }
+pub extern "C" fn tai_from_str(epoch: i64, text: &[u8]) -> TimeResult
+    ensures { λ r. ⌜ r ≡ timeResult (readText yearLimit epoch (now (text .entry))) ⌝ }
 {
     match reader::from_str(text, Epoch(epoch)) {
         ReadAnswer::At(t) => time(t.secs, t.nanos),
-        ReadAnswer::Refused(e) => match e {
-            ParseDateTimeError::MissingField => refused(7, 0, 0),
-            ParseDateTimeError::InvalidFieldWidth => refused(8, 0, 0),
-            ParseDateTimeError::InvalidFieldValue => refused(9, 0, 0),
-            ParseDateTimeError::RangeError(date) => date_refused(date, 1),
-        },
+        ReadAnswer::Refused(e) => refused(e.refusal()),
     }
 }
 
 #[no_mangle]
 pub extern "C" fn tai_display(
+    epoch: i64,
     secs: i64,
     nanos: u32,
-    epoch: i64,
     given: i32,
     digits: usize,
     line: &mut [u8],
@@ -53,7 +45,7 @@ pub extern "C" fn tai_display(
             length,
         },
         Printed::Refused(e) => LengthResult {
-            refusal: print_number(e),
+            refusal: e.refusal().number as i32,
             length: 0,
         },
     }
@@ -61,7 +53,7 @@ pub extern "C" fn tai_display(
 
 // The moment that a timestamp reads as over an epoch.
 #[no_mangle]
-pub extern "C" fn tai_secs_to_date_time(secs: i64, epoch: i64) -> MomentResult
+pub extern "C" fn tai_secs_to_date_time(epoch: i64, secs: i64) -> MomentResult
     ensures { λ r. ⌜ r ≡ momentResult (momentAt (secs +ℤ epoch)) ⌝ }
 {
     let m = moments::secs_to_date_time(secs, epoch);

@@ -1,11 +1,10 @@
-// The entries on counts and durations.
+// The entries on counts and durations. Of a duration dsecs and dnanos, of another timestamp osecs and onanos.
 use crate::DurationResult;
 use crate::OrderingResult;
 use crate::TimeResult;
-use crate::results::count_number;
-use crate::results::count_refused;
-use crate::results::date_refused;
+use crate::UnixResult;
 use crate::results::ordering_result;
+use crate::results::refused;
 use crate::results::time;
 use crate::results::time_result;
 use counts::DateTimeAnswer;
@@ -19,7 +18,7 @@ use counts::UnixAnswer;
 use counts::UnixSeconds;
 ghost use mathlib.Core.Path.{_≡_};
 ghost use Rattle.counts.specs.Counts.{newTime, fromDateTime, fromUnix, toUnix, overEpoch, added, taken, since, compared};
-ghost use Rattle.records_box.specs.Results.{timeResult, secsResult, durationResult, orderingResult};
+ghost use Rattle.records_box.specs.Results.{timeResult, unixResult, durationResult, orderingResult};
 
 #[no_mangle]
 pub extern "C" fn tai_new(secs: i64, nanos: u32) -> TimeResult
@@ -43,7 +42,7 @@ pub extern "C" fn tai_try_from_date_time(
 {
     match TaiTime::try_from_date_time(Epoch(epoch), year, month, day, hour, min, sec, nano) {
         DateTimeAnswer::At(t) => time(t.secs, t.nanos),
-        DateTimeAnswer::Refused(e) => date_refused(e, 0),
+        DateTimeAnswer::Refused(e) => refused(e.refusal(false)),
     }
 }
 
@@ -65,18 +64,24 @@ pub extern "C" fn tai_try_from_unix_timestamp(
 }
 
 #[no_mangle]
-pub extern "C" fn tai_as_unix_secs(secs: i64, nanos: u32, epoch: i64, leap: i64) -> TimeResult
-    ensures { λ r. ⌜ r ≡ secsResult (toUnix epoch secs nanos leap) ⌝ }
+pub extern "C" fn tai_as_unix_secs(epoch: i64, secs: i64, nanos: u32, leap: i64) -> UnixResult
+    ensures { λ r. ⌜ r ≡ unixResult (toUnix epoch secs nanos leap) ⌝ }
 {
     let t = TaiTime { secs, nanos };
     match t.as_unix_secs(Epoch(epoch), LeapOffset(leap)) {
-        UnixAnswer::At(u) => time(u.0, 0),
-        UnixAnswer::Refused(e) => count_refused(e),
+        UnixAnswer::At(u) => UnixResult {
+            refusal: -1,
+            secs: u.0,
+        },
+        UnixAnswer::Refused(e) => UnixResult {
+            refusal: e.refusal().number as i32,
+            secs: 0,
+        },
     }
 }
 
 #[no_mangle]
-pub extern "C" fn tai_to_tai_time(secs: i64, nanos: u32, old: i64, new: i64) -> TimeResult
+pub extern "C" fn tai_to_tai_time(old: i64, new: i64, secs: i64, nanos: u32) -> TimeResult
     ensures { λ r. ⌜ r ≡ timeResult (overEpoch old new secs nanos) ⌝ }
 {
     let t = TaiTime { secs, nanos };
@@ -105,7 +110,6 @@ pub extern "C" fn tai_checked_sub(secs: i64, nanos: u32, dsecs: u64, dnanos: u32
     }))
 }
 
-// osecs and onanos are the other timestamp's, the earlier one.
 #[no_mangle]
 pub extern "C" fn tai_checked_duration_since(
     secs: i64,
@@ -126,7 +130,7 @@ pub extern "C" fn tai_checked_duration_since(
             secs: d.secs,
         },
         DurationAnswer::Refused(e) => DurationResult {
-            refusal: count_number(e),
+            refusal: e.refusal().number as i32,
             nanos: 0,
             secs: 0,
         },
@@ -144,7 +148,7 @@ pub extern "C" fn tai_cmp(secs: i64, nanos: u32, osecs: i64, onanos: u32) -> Ord
     }) {
         OrderingAnswer::Is(o) => ordering_result(o),
         OrderingAnswer::Refused(e) => OrderingResult {
-            refusal: count_number(e),
+            refusal: e.refusal().number as i32,
             ordering: 0,
         },
     }

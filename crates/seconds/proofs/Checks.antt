@@ -1,6 +1,6 @@
--- What decides a check, and what an outcome tells of it: nanoseconds that are good or bad, a checked sum that was given or not.
+-- What decides a check: nanoseconds that are good or bad, a checked sum that was given or not.
 use mathlib.Core.Path.{_≡_, refl, sym, _∙_}
-use mathlib.Core.Bool.{Bool, true, false, cond, _&&_}
+use mathlib.Core.Bool.{Bool, true, false, cond}
 use mathlib.Core.List.{[]}
 use Prim.Native.Nat.{ℕ, _≤_, _<_}
 use native.Mathlib.Omega.{arith}
@@ -11,20 +11,8 @@ use Rattle.integers.specs.Integers.{isI64, checked}
 use Rattle.integers.specs.declared.Checked.{Checked}
 use Rattle.integers.specs.declared.Checked.the-variants.{Exact, Outside}
 use Rattle.integers.proofs.Sums.{exact-tells, outside-tells}
-use Rattle.errors.specs.Refusals.{Refusal, Outcome, refusal, gives, refuses}
-use Rattle.seconds.specs.Counts.{check, representable, minusPlus}
-
-pub both : (a b : Bool) → (a && b) ≡ true → (a ≡ true) × (b ≡ true)
-both true b e = (refl, e)
-both false b e = (e, cc)
-
-pub refuses-not : {A : Type 0} {r : Refusal} {x : A} → refuses r ≡ gives x → ⊥
-refuses-not e = let z : _≡_ {A = ℕ} 0 1 = cc in omega arith
-
--- a value came through a check: the test held
-pub passed : {A : Type 0} {x : A} (b : Bool) (r : Refusal) (o : Outcome A) → check b r o ≡ gives x → (b ≡ true) × (o ≡ gives x)
-passed true r o e = (refl, e)
-passed false r o e = absurd (refuses-not e)
+use Rattle.errors.specs.Refusals.{Outcome, refusal, refuses}
+use Rattle.seconds.specs.Counts.{representable, minusPlus}
 
 pub bad : (n : ℕ) → 999999999 < n → ltb n 1000000000 ≡ false
 bad n h = le-ltb n 1000000000 (omega arith)

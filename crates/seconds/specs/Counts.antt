@@ -1,5 +1,5 @@
 -- What a new timestamp and a change of reference answer: document 01's checks in its order ("Counts and durations", "When the box says no"), in exact integers.
-use mathlib.Core.Bool.{Bool, cond}
+use mathlib.Core.Bool.{cond}
 use mathlib.Core.List.{[]}
 use Prim.Native.Nat.{ℕ, _/_, _%_}
 use lib.Dec.{ltb}
@@ -7,11 +7,7 @@ use lib.IntN.{ℤ, pos, _+ℤ_, _-ℤ_}
 use Rattle.integers.specs.Integers.{isI64, checked}
 use Rattle.integers.specs.declared.Checked.{Checked}
 use Rattle.integers.specs.declared.Checked.the-variants.{Outside}
-use Rattle.errors.specs.Refusals.{Refusal, refusal, Outcome, gives, refuses}
-
--- the test holds, or the refusal is given
-abbrev pub check : {A : Type 0} → Bool → Refusal → Outcome A → Outcome A
-check test r rest = cond test rest (refuses r)
+use Rattle.errors.specs.Refusals.{refusal, Outcome, gives, check}
 
 -- 10: z must be an i64; 11: nanoseconds must be below 10^9
 abbrev pub representable : {A : Type 0} → ℤ → Outcome A → Outcome A

@@ -8,12 +8,12 @@ use mir.Syntax.{w64}
 use mir.Val.{toZ, ofZ, SFits}
 use borrow.Author.Needs.{needs}
 use Rattle.integers.specs.Integers.{Proper, checked}
-use Rattle.integers.proofs.Signed.{apart, size-law}
+use Rattle.integers.proofs.Signed.{apart, size-law, le-true}
 use Rattle.integers.proofs.Machine.{known, known64}
 use Rattle.integers.proofs.Floor.{PartsOf, of-split, of-sub, whole-of, proper}
 use Rattle.calendar.specs.Closed.{dayNumber}
 use Rattle.moments.specs.Moments.{secondsOf}
-use Rattle.moments.proofs.Moments.{le-true, day-near, second-within}
+use Rattle.moments.proofs.Moments.{day-near, second-within}
 use Rattle.moments.proofs.date_time_to_secs.Statement.{statement}
 use Rattle.moments.proofs.date_time_to_secs.Tie as tie
 

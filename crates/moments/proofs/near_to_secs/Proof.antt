@@ -8,10 +8,10 @@ use mir.Syntax.{w64}
 use mir.Val.{SFits}
 use borrow.Author.Needs.{needs}
 use Rattle.integers.specs.Integers.{checked}
-use Rattle.integers.proofs.Signed.{size-law}
+use Rattle.integers.proofs.Signed.{size-law, le-true}
 use Rattle.integers.proofs.Machine.{signed, known, known64}
 use Rattle.integers.proofs.Sums.{exact-if, inside}
-use Rattle.moments.proofs.Moments.{le-true, seconds-near}
+use Rattle.moments.proofs.Moments.{seconds-near}
 use Rattle.moments.proofs.near_to_secs.Statement.{statement}
 use Rattle.moments.proofs.near_to_secs.Tie as tie
 

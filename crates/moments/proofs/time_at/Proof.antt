@@ -1,7 +1,7 @@
 -- `moments::time_at`.
 use mathlib.Core.Path.{refl}
 use borrow.Author.Needs.{needs}
-use Rattle.moments.specs.Moments.{timeAt}
+use Rattle.moments.specs.Moments.{timeOfDay}
 use Rattle.moments.proofs.time_at.Statement.{statement}
 use Rattle.moments.proofs.time_at.Tie as tie
 
@@ -15,7 +15,7 @@ cast-t8 : tie.Need-cast-t8
 cast-t8 c = search needs
 
 returns : tie.Need-returns
-unfolding timeAt
+unfolding timeOfDay
 returns c = refl
 
 pub time-at-spec : {M : Type 1} → statement M

@@ -1,4 +1,4 @@
--- `printer::display`: the stamp that is printed is that of the moment at seconds plus epoch.
+-- `printer::display`: the instant that is printed is that of the moment at seconds plus epoch.
 use mathlib.Core.Path.{_≡_, sym, ap, subst, _∙_}
 use Prim.Native.Nat.{_^_, _<_}
 use native.Mathlib.Omega.{arith}
@@ -13,8 +13,8 @@ use Rattle.moments.specs.Moments.{momentAt}
 use Rattle.moments.proofs.Moments.{year-within}
 use Rattle.seconds.proofs.Checks.{bad, good}
 use Rattle.printer.specs.Text.{text}
-use Rattle.printer.specs.Line.{answer, lineAfter}
-use Rattle.printer.specs.Display.{stamp, timeText, displayed}
+use Rattle.printer.specs.Lent.{answer, lineAfter}
+use Rattle.printer.specs.Display.{instant, timeText, displayed}
 use Rattle.printer.proofs.display.Statement.{statement}
 use Rattle.printer.proofs.display.Tie as tie
 
@@ -32,8 +32,8 @@ module _ (k : tie.After-secs-to-date-time) where
   year-small : natAbs (toZ w64 (ofZ w64 (k .secs-to-date-time .result .date .year))) < 10 ^ 12
   year-small = rw year-back (subst (λ (n : Moment). natAbs (n .date .year) < 10 ^ 12) (sym moment-is) (year-within (k .before .before .before .before .before .args .t .secs) (k .before .before .before .before .before .args .epoch .0) (search needs) (search needs)))
 
-  stamp-is : stamp (record { date = record { year = toZ w64 (ofZ w64 (k .secs-to-date-time .result .date .year)); month = k .secs-to-date-time .result .date .month; day = k .secs-to-date-time .result .date .day }; time = k .secs-to-date-time .result .time }) (k .before .before .before .before .before .args .t .nanos) ≡ stamp (momentAt (k .before .before .before .before .before .args .t .secs +ℤ k .before .before .before .before .before .args .epoch .0)) (k .before .before .before .before .before .args .t .nanos)
-  stamp-is = rw year-back (ap (λ n. stamp n (k .before .before .before .before .before .args .t .nanos)) moment-is)
+  instant-is : instant (record { date = record { year = toZ w64 (ofZ w64 (k .secs-to-date-time .result .date .year)); month = k .secs-to-date-time .result .date .month; day = k .secs-to-date-time .result .date .day }; time = k .secs-to-date-time .result .time }) (k .before .before .before .before .before .args .t .nanos) ≡ instant (momentAt (k .before .before .before .before .before .args .t .secs +ℤ k .before .before .before .before .before .args .epoch .0)) (k .before .before .before .before .before .args .t .nanos)
+  instant-is = rw year-back (ap (λ n. instant n (k .before .before .before .before .before .args .t .nanos)) moment-is)
 
 returns : tie.Need-returns
 unfolding displayed
@@ -52,7 +52,7 @@ returns-2 : tie.Need-returns-2
 unfolding displayed timeText
 returns-2 c = let s = now (c .before .before .before .before .before .before .before .before .before .before .before .before .args .line) in
     let at = c .before .before .before .before .before .before .before .before .before .before .before .before .args .at in
-    let e = stamp-is (search) in
+    let e = instant-is (search) in
     let p = c .before .before .print-at .ensures .0 ∙ ap (λ t. answer s at (text t (c .before .before .before .before .before .before .before .before .before .before .before .before .args .precision))) e in
     let q = c .before .before .print-at .ensures .1 ∙ ap (λ t. lineAfter s at (text t (c .before .before .before .before .before .before .before .before .before .before .before .before .args .precision))) e in
     rw (good (c .before .before .before .before .before .before .before .before .before .before .before .before .args .t .nanos) (omega arith)) (λ i. (p i, q i))

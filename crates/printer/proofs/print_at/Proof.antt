@@ -13,7 +13,7 @@ use Rattle.errors.specs.Refusals.{gives}
 use Rattle.printed_parts.specs.Text.{dash, point, yearText}
 use Rattle.printer.specs.Text.{text}
 use Rattle.printer.proofs.Text.{text-length, text-of, text-bound}
-use Rattle.printer.proofs.Line.{outside, narrow, room}
+use Rattle.printer.proofs.Lent.{outside, narrow, room}
 use Rattle.printer.proofs.print_at.Statement.{statement}
 use Rattle.printer.proofs.print_at.Tie as tie
 

@@ -2,7 +2,7 @@
 use mathlib.Core.Path.{ap, _∙_}
 use native.Mathlib.Omega.{arith}
 use borrow.Author.Needs.{needs}
-use Rattle.printer.specs.Line.{said}
+use Rattle.printer.specs.Lent.{said}
 use Rattle.desk.specs.Verbs.{answerOf}
 use Rattle.desk.proofs.Prints.{printed, refused}
 use Rattle.desk.proofs.lent.print.Statement.{statement}

@@ -13,17 +13,17 @@ use Rattle.counts.specs.Counts.{withNanos, dateTimeSecs, fromDateTime}
 use denote.Ref.{now}
 use Rattle.stages.specs.Text.{parsed}
 use Rattle.stages.specs.declared.Parsed.the-variants.{Fields}
-use Rattle.reader.specs.Stamp.{stamped, inRangeError, readText}
+use Rattle.reader.specs.Stamp.{stamped, inRangeError, readText, yearLimit}
 use Rattle.stages.proofs.YearLimit.{year-within, within-limit}
 use Rattle.reader.proofs.stamp.from_str.Statement.{statement}
 use Rattle.reader.proofs.stamp.from_str.Tie as tie
 
 -- what the text says
-says : (k : tie.After-known-told2) → parsed 2147483647 (now (k .before .before .before .before .before .args .text)) ≡ Fields (k .before .f .given .0 .0)
+says : (k : tie.After-known-told2) → parsed yearLimit (now (k .before .before .before .before .before .args .text)) ≡ Fields (k .before .f .given .0 .0)
 says k = sym (k .before .before .before .parse-date-time .ensures) ∙ k .before .f .given .1
 
-year-small : (k : tie.After-known-told2) → natAbs (k .before .f .given .0 .0 .year) ≤ 2147483647
-year-small k = within-limit (year-within 2147483647 _) (says k)
+year-small : (k : tie.After-known-told2) → natAbs (k .before .f .given .0 .0 .year) ≤ yearLimit
+year-small k = within-limit (year-within yearLimit _) (says k)
 
 -- what the date's count says, of the numbers themselves
 counted : (k : tie.After-date-time-secs) → let f = k .before .before .before .before .f .given .0 .0 in saidSecs (k .date-time-secs .result) ≡ dateTimeSecs (k .before .before .before .before .before .before .before .before .args .epoch .0) (f .year) (f .month) (f .day) (f .hour) (f .min) (f .sec) (f .nano)

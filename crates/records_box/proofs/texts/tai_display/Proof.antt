@@ -1,14 +1,17 @@
 -- `records_box::tai_display`: the entry's outcome, encoded.
+use mathlib.Core.Bool.{false}
 use mathlib.Core.List.{List}
 use mathlib.Core.Path.{_≡_, sym, ap, _∙_}
 use Prim.Native.Nat.{ℕ}
-use mir.Facts.{toZ-ofZ}
+use lib.IntN.{pos}
+use mir.Facts.{toZ-ofZ, toZ-pos}
 use mir.Syntax.{w32}
-use borrow.Author.Needs.{needs}
 use denote.Ref.{now}
+use borrow.Author.Needs.{needs}
+use Rattle.errors.proofs.Told.{told-number}
 use Rattle.printer.specs.Display.{displayed}
+use Rattle.printer.specs.Lent as Lent
 use Rattle.records_box.specs.Results.{precisionOf, lineResult}
-use Rattle.printer.specs.Line as Line
 use Rattle.records_box.proofs.texts.tai_display.Statement.{statement}
 use Rattle.records_box.proofs.texts.tai_display.Tie as tie
 
@@ -16,7 +19,7 @@ use Rattle.records_box.proofs.texts.tai_display.Tie as tie
 abbrev written : tie.After-display → List ℕ
 written k = k .display .last .1 .1 .1 .0
 
-says : (k : tie.After-display) → let a = k .before .before .before .before .args in (Line.said (k .display .result), written k) ≡ displayed (a .secs) (a .nanos) (a .epoch) (precisionOf (a .given) (a .digits)) (now (a .line)) (a .at)
+says : (k : tie.After-display) → let a = k .before .before .before .before .args in (Lent.said (k .display .result), written k) ≡ displayed (a .secs) (a .nanos) (a .epoch) (precisionOf (a .given) (a .digits)) (now (a .line)) (a .at)
 says k =
     let s = k .before .before .before .before in
     let a = s .args in
@@ -37,20 +40,23 @@ enum-known-length c = search needs
 enum-known-e : tie.Need-enum-known-e
 enum-known-e c = search needs
 
-print-number-requires : tie.Need-print-number-requires
-print-number-requires c κs = search needs
+refusal-requires : tie.Need-refusal-requires
+refusal-requires c κs = search needs
+
+cast-t18 : tie.Need-cast-t18
+cast-t18 c = search needs
 
 same-length : tie.Need-same-length
 same-length c = search needs
 
 returns : tie.Need-returns
-returns c = sym (ap (λ a. lineResult (Line.said a, written (search))) (c .before .length .given .1)) ∙ ap lineResult (says (search))
+returns c = sym (ap (λ a. lineResult (Lent.said a, written (search))) (c .before .length .given .1)) ∙ ap lineResult (says (search))
 
 same-length-2 : tie.Need-same-length-2
 same-length-2 c = search needs
 
 returns-2 : tie.Need-returns-2
-returns-2 c = ap (λ n. (record { refusal = n; length = 0 }, written (search))) (toZ-ofZ {w = w32} (record { sfits = c .print-number .ok }) ∙ c .print-number .ensures) ∙ sym (ap (λ a. lineResult (Line.said a, written (search))) (c .before .before .e .given .1)) ∙ ap lineResult (says (search))
+returns-2 c = ap (λ n. (record { refusal = n; length = 0 }, written (search))) (toZ-pos w32 (cast-t18 (search) .sfits) ∙ ap pos (told-number (c .before .refusal .result) false _ (c .before .refusal .ensures))) ∙ sym (ap (λ a. lineResult (Lent.said a, written (search))) (c .before .before .before .e .given .1)) ∙ ap lineResult (says (search))
 
 pub tai-display-spec : {M : Type 1} → statement M
 tai-display-spec =
@@ -60,7 +66,8 @@ tai-display-spec =
     display-requires
     enum-known-length
     enum-known-e
-    print-number-requires
+    refusal-requires
+    cast-t18
     same-length
     returns
     same-length-2

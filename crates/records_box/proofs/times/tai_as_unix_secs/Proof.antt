@@ -1,12 +1,15 @@
 -- `records_box::tai_as_unix_secs`: the entry's outcome, encoded.
+use mathlib.Core.Bool.{false}
 use mathlib.Core.Path.{_≡_, sym, ap, _∙_}
-use mir.Facts.{toZ-ofZ}
-use mir.Syntax.{w64}
+use lib.IntN.{pos}
+use mir.Facts.{toZ-ofZ, toZ-pos}
+use mir.Syntax.{w32, w64}
 use mir.Val.{SFits}
 use borrow.Author.Needs.{needs}
+use Rattle.errors.proofs.Told.{told-number}
 use Rattle.counts.specs.Counts.{toUnix}
 use Rattle.counts.specs.Said.{saidUnix}
-use Rattle.records_box.specs.Results.{secsResult}
+use Rattle.records_box.specs.Results.{unixResult}
 use Rattle.records_box.proofs.times.tai_as_unix_secs.Statement.{statement}
 use Rattle.records_box.proofs.times.tai_as_unix_secs.Tie as tie
 
@@ -23,21 +26,21 @@ as-unix-secs-requires c κs = search needs
 enum-known-u : tie.Need-enum-known-u
 enum-known-u c = search needs
 
-time-requires : tie.Need-time-requires
-time-requires c κs = search needs
-
 enum-known-e : tie.Need-enum-known-e
 enum-known-e c = search needs
 
-count-refused-requires : tie.Need-count-refused-requires
-count-refused-requires c κs = search needs
+refusal-requires : tie.Need-refusal-requires
+refusal-requires c κs = search needs
+
+cast-t13 : tie.Need-cast-t13
+cast-t13 c = search needs
 
 returns : tie.Need-returns
-returns c = let f : SFits w64 (c .before .before .before .u .given .0 .0 .0) = search needs in
-    (simp toZ-ofZ at (c .time .ensures)) ∙ sym (ap (λ x. secsResult (saidUnix x)) (c .before .before .before .u .given .1)) ∙ ap secsResult (said (search))
+returns c = let f : SFits w64 (c .before .before .u .given .0 .0 .0) = search needs in
+    simp toZ-ofZ (sym (ap (λ x. unixResult (saidUnix x)) (c .before .before .u .given .1)) ∙ ap unixResult (said (search)))
 
 returns-2 : tie.Need-returns-2
-returns-2 c = c .count-refused .ensures ∙ sym (ap (λ x. secsResult (saidUnix x)) (c .before .before .e .given .1)) ∙ ap secsResult (said (search))
+returns-2 c = ap (λ n. record { refusal = n; secs = pos 0 }) (toZ-pos w32 (cast-t13 (search) .sfits) ∙ ap pos (told-number (c .before .refusal .result) false _ (c .before .refusal .ensures))) ∙ sym (ap (λ x. unixResult (saidUnix x)) (c .before .before .before .e .given .1)) ∙ ap unixResult (said (search))
 
 pub tai-as-unix-secs-spec : {M : Type 1} → statement M
 tai-as-unix-secs-spec =
@@ -45,8 +48,8 @@ tai-as-unix-secs-spec =
     (tie.spec
     as-unix-secs-requires
     enum-known-u
-    time-requires
     enum-known-e
-    count-refused-requires
+    refusal-requires
+    cast-t13
     returns
     returns-2)

@@ -1,8 +1,11 @@
 -- `records_box::tai_checked_duration_since`: the entry's outcome, encoded.
+use mathlib.Core.Bool.{false}
 use mathlib.Core.Path.{_≡_, sym, ap, _∙_}
-use mir.Facts.{toZ-ofZ}
+use lib.IntN.{pos}
+use mir.Facts.{toZ-ofZ, toZ-pos}
 use mir.Syntax.{w32}
 use borrow.Author.Needs.{needs}
+use Rattle.errors.proofs.Told.{told-number}
 use Rattle.counts.specs.Counts.{since}
 use Rattle.counts.specs.Said.{saidDuration}
 use Rattle.records_box.specs.Results.{durationResult}
@@ -24,14 +27,17 @@ enum-known-d c = search needs
 enum-known-e : tie.Need-enum-known-e
 enum-known-e c = search needs
 
-count-number-requires : tie.Need-count-number-requires
-count-number-requires c κs = search needs
+refusal-requires : tie.Need-refusal-requires
+refusal-requires c κs = search needs
+
+cast-t12 : tie.Need-cast-t12
+cast-t12 c = search needs
 
 returns : tie.Need-returns
 returns c = sym (ap (λ x. durationResult (saidDuration x)) (c .before .d .given .1)) ∙ ap durationResult (said (search))
 
 returns-2 : tie.Need-returns-2
-returns-2 c = ap (λ n. record { refusal = n; nanos = 0; secs = 0 }) (toZ-ofZ {w = w32} (record { sfits = c .count-number .ok }) ∙ c .count-number .ensures) ∙ sym (ap (λ x. durationResult (saidDuration x)) (c .before .before .e .given .1)) ∙ ap durationResult (said (search))
+returns-2 c = ap (λ n. record { refusal = n; nanos = 0; secs = 0 }) (toZ-pos w32 (cast-t12 (search) .sfits) ∙ ap pos (told-number (c .before .refusal .result) false _ (c .before .refusal .ensures))) ∙ sym (ap (λ x. durationResult (saidDuration x)) (c .before .before .before .e .given .1)) ∙ ap durationResult (said (search))
 
 pub tai-checked-duration-since-spec : {M : Type 1} → statement M
 tai-checked-duration-since-spec =
@@ -40,6 +46,7 @@ tai-checked-duration-since-spec =
     checked-duration-since-requires
     enum-known-d
     enum-known-e
-    count-number-requires
+    refusal-requires
+    cast-t12
     returns
     returns-2)

@@ -1,9 +1,11 @@
 -- `records_box::tai_cmp`: the entry's outcome, encoded.
+use mathlib.Core.Bool.{false}
 use mathlib.Core.Path.{_≡_, sym, ap, _∙_}
 use lib.IntN.{pos}
-use mir.Facts.{toZ-ofZ}
+use mir.Facts.{toZ-ofZ, toZ-pos}
 use mir.Syntax.{w32}
 use borrow.Author.Needs.{needs}
+use Rattle.errors.proofs.Told.{told-number}
 use Rattle.counts.specs.Counts.{compared}
 use Rattle.counts.specs.Said.{saidOrdering}
 use Rattle.records_box.specs.Results.{orderingResult}
@@ -28,14 +30,17 @@ ordering-result-requires c κs = search needs
 enum-known-e : tie.Need-enum-known-e
 enum-known-e c = search needs
 
-count-number-requires : tie.Need-count-number-requires
-count-number-requires c κs = search needs
+refusal-requires : tie.Need-refusal-requires
+refusal-requires c κs = search needs
+
+cast-t12 : tie.Need-cast-t12
+cast-t12 c = search needs
 
 returns : tie.Need-returns
 returns c = c .ordering-result .ensures ∙ sym (ap (λ x. orderingResult (saidOrdering x)) (c .before .before .o .given .1)) ∙ ap orderingResult (said (search))
 
 returns-2 : tie.Need-returns-2
-returns-2 c = ap (λ n. record { refusal = n; ordering = pos 0 }) (toZ-ofZ {w = w32} (record { sfits = c .count-number .ok }) ∙ c .count-number .ensures) ∙ sym (ap (λ x. orderingResult (saidOrdering x)) (c .before .before .e .given .1)) ∙ ap orderingResult (said (search))
+returns-2 c = ap (λ n. record { refusal = n; ordering = pos 0 }) (toZ-pos w32 (cast-t12 (search) .sfits) ∙ ap pos (told-number (c .before .refusal .result) false _ (c .before .refusal .ensures))) ∙ sym (ap (λ x. orderingResult (saidOrdering x)) (c .before .before .before .e .given .1)) ∙ ap orderingResult (said (search))
 
 pub tai-cmp-spec : {M : Type 1} → statement M
 tai-cmp-spec =
@@ -45,6 +50,7 @@ tai-cmp-spec =
     enum-known-o
     ordering-result-requires
     enum-known-e
-    count-number-requires
+    refusal-requires
+    cast-t12
     returns
     returns-2)

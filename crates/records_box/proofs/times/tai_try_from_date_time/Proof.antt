@@ -1,9 +1,11 @@
 -- `records_box::tai_try_from_date_time`: the entry's outcome, encoded.
+use mathlib.Core.Bool.{false}
 use mathlib.Core.Path.{_≡_, sym, ap, _∙_}
 use mir.Facts.{toZ-ofZ}
 use mir.Syntax.{w64}
 use mir.Val.{SFits}
 use borrow.Author.Needs.{needs}
+use Rattle.errors.proofs.Told.{told-any}
 use Rattle.counts.specs.Counts.{fromDateTime}
 use Rattle.counts.specs.Said.{saidDateTime}
 use Rattle.records_box.specs.Results.{timeResult}
@@ -28,15 +30,18 @@ time-requires c κs = search needs
 enum-known-e : tie.Need-enum-known-e
 enum-known-e c = search needs
 
-date-refused-requires : tie.Need-date-refused-requires
-date-refused-requires c κs = search needs
+refusal-requires : tie.Need-refusal-requires
+refusal-requires c κs = search needs
+
+refused-requires : tie.Need-refused-requires
+refused-requires c κs = search needs
 
 returns : tie.Need-returns
 returns c = let f : SFits w64 (c .before .before .before .t .given .0 .0 .secs) = search needs in
     (simp toZ-ofZ at (c .time .ensures)) ∙ sym (ap (λ x. timeResult (saidDateTime x)) (c .before .before .before .t .given .1)) ∙ ap timeResult (said (search))
 
 returns-2 : tie.Need-returns-2
-returns-2 c = c .date-refused .ensures ∙ sym (ap (λ x. timeResult (saidDateTime x)) (c .before .before .e .given .1)) ∙ ap timeResult (said (search))
+returns-2 c = c .refused .ensures ∙ ap timeResult (told-any (c .before .refusal .result) false _ (c .before .refusal .ensures)) ∙ sym (ap (λ x. timeResult (saidDateTime x)) (c .before .before .before .e .given .1)) ∙ ap timeResult (said (search))
 
 pub tai-try-from-date-time-spec : {M : Type 1} → statement M
 tai-try-from-date-time-spec =
@@ -46,6 +51,7 @@ tai-try-from-date-time-spec =
     enum-known-t
     time-requires
     enum-known-e
-    date-refused-requires
+    refusal-requires
+    refused-requires
     returns
     returns-2)

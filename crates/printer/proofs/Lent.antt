@@ -9,7 +9,7 @@ use Rattle.errors.specs.Refusals.{gives, refuses, refusal, ofPrint}
 use Rattle.errors.proofs.One.{print-one}
 use Rattle.printer.specs.declared.Printed.{Printed}
 use Rattle.printer.specs.declared.Printed.the-variants.{Length, Refused}
-use Rattle.printer.specs.Line.{said, byRoom, answer, lineAfter}
+use Rattle.printer.specs.Lent.{said, byRoom, answer, lineAfter}
 
 module _ (s : List ℕ) (at : ℕ) (text : List ℕ) where
   pub outside : length s < at → (refuses (refusal 12 []) ≡ answer s at text) × (s ≡ lineAfter s at text)
