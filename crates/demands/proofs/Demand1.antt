@@ -1,14 +1,13 @@
 -- Demand 1: any bytes, numbers and epoch get an answer or a refusal from document 01's table, in its order of checks, and a
--- refusal changes no lent byte. An entry promises `said answer ≡ meaning input`, of which the meanings are stated about here.
+-- refusal changes no lent byte. An entry promises `said answer ≡ meaning input`, of which the meanings are stated about here;
+-- what each refusal is given for stands in GivenWhen, and the order within a text in TextOrder.
 use mathlib.Core.Path.{_≡_}
 use mathlib.Core.List.{List, [], _∷_}
-use mathlib.Core.Logic.{_⊎_}
 use Prim.Native.Nat.{ℕ, _+_, _<_, _≤_}
-use lib.IntN.{ℤ, pos}
+use lib.IntN.{ℤ}
 use lib.ListN.{length}
 use Rattle.errors.specs.Refusals.{Refusal, refuses, refusesInRangeError, refusal, ofParse}
 use Rattle.errors.specs.declared.ParseDateTimeError.{ParseDateTimeError}
-use Rattle.calendar.specs.Walk.{Valid, date, monthLength}
 use Rattle.counts.specs.declared.TimeAnswer.{TimeAnswer}
 use Rattle.counts.specs.declared.DateTimeAnswer.{DateTimeAnswer}
 use Rattle.counts.specs.declared.date_seconds.SecsAnswer.{SecsAnswer}
@@ -30,8 +29,6 @@ use Rattle.printer.proofs.Lent.{said-one}
 use Rattle.demands.specs.Refused.{OnlyRefuses}
 use Rattle.demands.proofs.Answers.{time-one, date-time-answer-one, secs-one, unix-one, duration-one, ordering-one, read-one}
 use Rattle.demands.proofs.RefusalsOf.{new-only, from-date-only, from-unix-only, to-unix-only, over-epoch-only, added-only, taken-only, since-only, compared-only, read-only, displayed-only}
-use Rattle.demands.proofs.NanosFirst.{first, either}
-use Rattle.demands.proofs.DatesOrder.{month-first, day-second, hour-third, minute-fourth, second-fifth, nanosecond-sixth}
 use Rattle.demands.proofs.TextFirst.{text-refused, read-whole}
 use Rattle.demands.proofs.Lines.{refusal-leaves, bad-nanos, start-outside, no-room}
 
@@ -128,36 +125,6 @@ module _ (secs : ℤ) (nanos : ℕ) (epoch : ℤ) (precision : Precision) (line 
   pub no-room-last : nanos < 1000000000 → at ≤ length line → length line < at + length (timeText secs nanos epoch precision) → displayed secs nanos epoch precision line at ≡ (refuses (refusal 13 []), line)
   no-room-last = no-room secs nanos epoch precision line at
 
--- 11 goes before 10, whichever of the given timestamps and durations has bad nanoseconds.
-module _ (secs : ℤ) (nanos : ℕ) where
-  pub bad-nanos-of-new : 1000000000 ≤ nanos → newTime secs nanos ≡ refuses (refusal 11 [])
-  unfolding newTime
-  bad-nanos-of-new = first nanos _
-
-  pub bad-nanos-to-unix : (epoch leap : ℤ) → 1000000000 ≤ nanos → toUnix epoch secs nanos leap ≡ refuses (refusal 11 [])
-  unfolding toUnix
-  bad-nanos-to-unix epoch leap = first nanos _
-
-  pub bad-nanos-over-epoch : (old new : ℤ) → 1000000000 ≤ nanos → overEpoch old new secs nanos ≡ refuses (refusal 11 [])
-  unfolding overEpoch
-  bad-nanos-over-epoch old new = first nanos _
-
-  pub bad-nanos-added : (dsecs dnanos : ℕ) → (1000000000 ≤ nanos) ⊎ (1000000000 ≤ dnanos) → added secs nanos dsecs dnanos ≡ refuses (refusal 11 [])
-  unfolding added
-  bad-nanos-added dsecs dnanos = either nanos dnanos _
-
-  pub bad-nanos-taken : (dsecs dnanos : ℕ) → (1000000000 ≤ nanos) ⊎ (1000000000 ≤ dnanos) → taken secs nanos dsecs dnanos ≡ refuses (refusal 11 [])
-  unfolding taken
-  bad-nanos-taken dsecs dnanos = either nanos dnanos _
-
-  pub bad-nanos-since : (secs′ : ℤ) (nanos′ : ℕ) → (1000000000 ≤ nanos) ⊎ (1000000000 ≤ nanos′) → since secs nanos secs′ nanos′ ≡ refuses (refusal 11 [])
-  unfolding since
-  bad-nanos-since secs′ nanos′ = either nanos nanos′ _
-
-  pub bad-nanos-compared : (secs′ : ℤ) (nanos′ : ℕ) → (1000000000 ≤ nanos) ⊎ (1000000000 ≤ nanos′) → compared secs nanos secs′ nanos′ ≡ refuses (refusal 11 [])
-  unfolding compared
-  bad-nanos-compared secs′ nanos′ = either nanos nanos′ _
-
 module _ (limit : ℕ) (epoch : ℤ) (text : List ℕ) where
   -- A text error beats a date error: it is the answer whatever the epoch and the fields,
   pub text-error-first : {e : ParseDateTimeError} → parsed limit text ≡ Refused e → readText limit epoch text ≡ ofParse e
@@ -167,25 +134,3 @@ module _ (limit : ℕ) (epoch : ℤ) (text : List ℕ) where
   pub date-error-last : {r : Refusal} → readText limit epoch text ≡ refusesInRangeError r
       → (f : DateTime) × (parsed limit text ≡ Fields f) × (fromDateTime epoch (f .year) (f .month) (f .day) (f .hour) (f .min) (f .sec) (f .nano) ≡ refuses r)
   date-error-last = read-whole limit epoch text
-
--- Dates check 0 to 6 in order: the month whatever the rest is, then the day,
-module _ (epoch year : ℤ) (month day hour min sec nano : ℕ) where
-  pub month-is-0 : (month < 1) ⊎ (12 < month) → fromDateTime epoch year month day hour min sec nano ≡ refuses (refusal 0 (pos month ∷ []))
-  month-is-0 = month-first epoch year month day hour min sec nano
-
-  pub day-is-1 : 1 ≤ month → month ≤ 12 → (day < 1) ⊎ (monthLength year month < day) → fromDateTime epoch year month day hour min sec nano ≡ refuses (refusal 1 (pos day ∷ []))
-  day-is-1 = day-second epoch year month day hour min sec nano
-
--- and for a date that exists, hour, minute, second and nanosecond (Demand3, date-out-of-range, has 6).
-module _ (epoch year : ℤ) (month day hour min sec nano : ℕ) (v : Valid (date year month day)) where
-  pub hour-is-2 : 23 < hour → fromDateTime epoch year month day hour min sec nano ≡ refuses (refusal 2 (pos hour ∷ []))
-  hour-is-2 = hour-third epoch year month day hour min sec nano v
-
-  pub minute-is-3 : hour ≤ 23 → 59 < min → fromDateTime epoch year month day hour min sec nano ≡ refuses (refusal 3 (pos min ∷ []))
-  minute-is-3 = minute-fourth epoch year month day hour min sec nano v
-
-  pub second-is-4 : hour ≤ 23 → min ≤ 59 → 59 < sec → fromDateTime epoch year month day hour min sec nano ≡ refuses (refusal 4 (pos sec ∷ []))
-  second-is-4 = second-fifth epoch year month day hour min sec nano v
-
-  pub nanosecond-is-5 : hour ≤ 23 → min ≤ 59 → sec ≤ 59 → 1000000000 ≤ nano → fromDateTime epoch year month day hour min sec nano ≡ refuses (refusal 5 (pos nano ∷ []))
-  nanosecond-is-5 = nanosecond-sixth epoch year month day hour min sec nano v

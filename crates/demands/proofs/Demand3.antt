@@ -13,14 +13,14 @@ use Rattle.moments.specs.declared.Moment.{Moment}
 use Rattle.calendar.specs.Walk.{Valid}
 use Rattle.moments.specs.Moments.{momentAt, ValidTime}
 use Rattle.counts.specs.Counts.{fromDateTime, exact, added, taken, since, compared}
-use Rattle.durations.specs.declared.Ordering.the-variants.{Less}
+use Rattle.durations.specs.declared.Ordering.{Ordering}
 use Rattle.reader.specs.Stamp.{readText, yearLimit}
 use Rattle.printed_parts.specs.declared.Precision.the-variants.{Default}
 use Rattle.printer.specs.Display.{timeText, displayed}
-use Rattle.demands.specs.Values.{I64, Timestamp, Duration, moment, Reaches, EarlierReading, TimeLiesAt, DurationLiesAt}
+use Rattle.demands.specs.Values.{I64, Timestamp, Duration, moment, Reaches, EarlierReading, Stand, Read, TimeLiesAt, DurationLiesAt}
 use Rattle.demands.proofs.DatesWalked.{accepted, refused, one-count}
 use Rattle.demands.proofs.ExactSums.{added-lies, taken-lies, since-lies}
-use Rattle.demands.proofs.Order.{earlier, told-less, less-told}
+use Rattle.demands.proofs.Order.{earlier, compares, reads}
 use Rattle.demands.proofs.RoundTrip.{back, one-text}
 use Rattle.demands.proofs.Lines.{in-line}
 
@@ -61,17 +61,18 @@ differencing = since-lies
 
 -- ---- (c) Order
 module _ (secs secs′ : ℤ) (nanos nanos′ : ℕ) where
-  -- Over one epoch an earlier timestamp reads as an earlier calendar moment, by nanoseconds where the second is the same;
+  -- Over one epoch an earlier timestamp reads as an earlier calendar moment, by nanoseconds where the second is the same.
   pub earlier-reads-earlier : (epoch : ℤ) → nanos < 1000000000 → nanos′ < 1000000000 → exact secs nanos <ℤ exact secs′ nanos′
       → EarlierReading (momentAt (secs +ℤ epoch)) nanos (momentAt (secs′ +ℤ epoch)) nanos′
   earlier-reads-earlier epoch = earlier epoch secs secs′ nanos nanos′
 
-  -- and so does one that compares as less, which says that its nanoseconds are good and its exact count is smaller.
-  pub less-reads-earlier : (epoch : ℤ) → compared secs nanos secs′ nanos′ ≡ gives Less → EarlierReading (momentAt (secs +ℤ epoch)) nanos (momentAt (secs′ +ℤ epoch)) nanos′
-  less-reads-earlier epoch e = let l = told-less secs secs′ nanos nanos′ e in earlier-reads-earlier epoch (l .0) (l .1) (l .2)
+  -- A comparison answers earlier, same or later exactly if both have good nanoseconds and their exact counts stand so,
+  pub compared-exactly : (o : Ordering) → (compared secs nanos secs′ nanos′ ≡ gives o) ↔ ((nanos < 1000000000) × (nanos′ < 1000000000) × Stand o (exact secs nanos) (exact secs′ nanos′))
+  compared-exactly = compares secs secs′ nanos nanos′
 
-  pub less-is-earlier : nanos < 1000000000 → nanos′ < 1000000000 → (compared secs nanos secs′ nanos′ ≡ gives Less) ↔ (exact secs nanos <ℤ exact secs′ nanos′)
-  less-is-earlier h h′ = (λ e. told-less secs secs′ nanos nanos′ e .2, less-told secs secs′ nanos nanos′ h h′)
+  -- and over every epoch the two then read as an earlier, the same or a later moment.
+  pub reads-as-compared : (epoch : ℤ) (o : Ordering) → compared secs nanos secs′ nanos′ ≡ gives o → Read o (momentAt (secs +ℤ epoch)) nanos (momentAt (secs′ +ℤ epoch)) nanos′
+  reads-as-compared epoch o e = let c = compared-exactly o .0 e in reads epoch secs secs′ nanos nanos′ o (c .0) (c .1) (c .2)
 
 -- ---- (d) Text, at default precision
 -- Two timestamps that print the same over one epoch are the same,

@@ -2,6 +2,9 @@ pub mod Demand1
 pub mod Demand2
 pub mod Demand3
 pub mod Readings
+pub mod LongestText
+pub mod GivenWhen
+pub mod TextOrder
 pub mod Passed
 pub mod Integers
 pub mod Answers

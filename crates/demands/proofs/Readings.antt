@@ -1,7 +1,13 @@
--- The readings of document 01 that are marked P: one table, specs/Readings.antt, and one claim about all its rows.
+-- The readings of document 01 that are marked P, one table (specs/Readings.antt) and one claim about all its rows; and our own.
+use mir.Facts.{and-yes}
 use Rattle.demands.specs.Readings.{readings, AllHold}
-use Rattle.demands.proofs.ReadingsTest.{all-hold, all-pass}
+use Rattle.demands.specs.OurReadings.{ours}
+use Rattle.demands.proofs.ReadingsTest.{allPass, all-hold, all-pass}
 
 -- Every reading holds: what is printed, what a date counts, what a text reads as and what a sum is are as the row says.
 pub every-reading : AllHold readings
-every-reading = all-hold readings all-pass
+every-reading = all-hold readings (and-yes (allPass readings) (allPass ours) all-pass .0)
+
+-- So do ours: each named epoch starts as it should, and the earliest timestamp, the longest duration added, is the latest.
+pub our-readings : AllHold ours
+our-readings = all-hold ours (and-yes (allPass readings) (allPass ours) all-pass .1)

@@ -32,6 +32,7 @@ use Rattle.printer.specs.Display.{instant, timeText, displayed}
 use Rattle.demands.specs.Values.{moment}
 use Rattle.texts.specs.Texts.{bytes}
 use Rattle.demands.specs.Readings.{Reading, prints, counts, reads, adds, Holds, AllHold, readings}
+use Rattle.demands.specs.OurReadings.{ours}
 use Rattle.demands.proofs.DatesWalked.{accepted}
 
 -- ---- equality that computes
@@ -145,7 +146,7 @@ pub all-hold : (rows : List Reading) → T (allPass rows) → AllHold rows
 all-hold [] t = tt
 all-hold (r ∷ rows) t = let b = and-yes (passes r) (allPass rows) t in (holds r (b .0), all-hold rows (b .1))
 
--- EVERY ROW PASSES, as the prover computes it
-pub all-pass : T (allPass readings)
+-- EVERY ROW PASSES, as the prover computes it: those of document 01, and our own
+pub all-pass : T (allPass readings && allPass ours)
 unfolding isI64 floorDiv floorMod divides isLeap monthRow monthLength leapYears yearStart sumTo dayOfYear dayNumber secondOfDay secondsOf dateTimeSecs fromDateTime exact timeAt added beginsWith isDigit allDigits decimalAfter digitsUpTo number Fields.isDelimiter Fields.width Fields.twoDigits Fields.nanoseconds Fields.fraction Fields.seconds Text.field Text.fromMonth Text.fromYear Text.withoutSign Text.parsed readText Digits.digits Digits.widthFrom Digits.width Parts.yearText Parts.trim Parts.fractionText Printed.fieldsText Printed.text
 all-pass = tt

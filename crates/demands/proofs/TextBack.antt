@@ -22,7 +22,7 @@ use Rattle.demands.proofs.FractionBack.{nanoseconds-trim, trim-digits}
 use Rattle.demands.proofs.FieldsBack.{field-back, seconds-back, year-back, no-sign, no-minus}
 
 -- a stamp that can be printed in full
-pub record Printable (limit : ℕ) (t : Stamp) : Type 0 where
+pub record Printable (limit : ℕ) (t : Instant) : Type 0 where
   pub year : natAbs (t .year) ≤ limit
   pub room : natAbs (t .year) < 10 ^ 20
   pub month : t .month < 100
@@ -33,7 +33,7 @@ pub record Printable (limit : ℕ) (t : Stamp) : Type 0 where
   pub nanos : t .nanos < 1000000000
 
 -- the fields of a stamp, as a reader says them
-abbrev pub fieldsOf : Stamp → DateTime
+abbrev pub fieldsOf : Instant → DateTime
 fieldsOf t = record { year = t .year; month = t .month; day = t .day; hour = t .hour; min = t .minute; sec = t .second; nano = t .nanos }
 
 -- ---- the delimiters that are printed
@@ -50,15 +50,15 @@ unfolding isDelimiter
 colon = refl
 
 -- everything behind the hyphen of the year
-abbrev afterYear : Stamp → List ℕ
+abbrev afterYear : Instant → List ℕ
 afterYear t =
     digits 2 (t .month) ++ (45 ∷ (digits 2 (t .day) ++ (32 ∷ (digits 2 (t .hour) ++ (58 ∷ (digits 2 (t .minute) ++ (58 ∷ (digits 2 (t .second) ++ pointed (trim (digits 9 (t .nanos)))))))))))
 
-fields-after : (t : Stamp) → fieldsText t ++ fractionText Default (t .nanos) ≡ 45 ∷ afterYear t
+fields-after : (t : Instant) → fieldsText t ++ fractionText Default (t .nanos) ≡ 45 ∷ afterYear t
 unfolding fieldsText fractionText digits
 fields-after t = refl
 
-month-back : (limit : ℕ) (year : ℤ) (t : Stamp) → Printable limit t → year ≡ t .year → fromMonth year (afterYear t) ≡ Fields (fieldsOf t)
+month-back : (limit : ℕ) (year : ℤ) (t : Instant) → Printable limit t → year ≡ t .year → fromMonth year (afterYear t) ≡ Fields (fieldsOf t)
 unfolding fromMonth
 month-back limit year t p e =
     field-back Hyphen (t .month) (p .month) 45 _ _ hyphen
@@ -88,7 +88,7 @@ module _ (limit : ℕ) (r : List ℕ) where
       rw year-marked (year-back limit (width (suc n)) (suc n) (w .from) (w .room) h r true)
 
 -- THE TEXT READS BACK
-pub text-back : (limit : ℕ) (t : Stamp) → Printable limit t → parsed limit (text t Default) ≡ Fields (fieldsOf t)
+pub text-back : (limit : ℕ) (t : Instant) → Printable limit t → parsed limit (text t Default) ≡ Fields (fieldsOf t)
 unfolding text
 text-back limit t p =
     rw (append-assoc, fields-after t) (sign-back limit (afterYear t) (t .year) (p .year) (p .room) ∙ month-back limit (t .year) t p refl)

@@ -1,3 +1,5 @@
 pub mod Values
 pub mod Refused
 pub mod Readings
+pub mod OurReadings
+pub mod GivenWhen

@@ -5,11 +5,14 @@ use mathlib.Core.List.{List, [], _∷_}
 use mathlib.Core.Logic.{_↔_}
 use Prim.Native.Nat.{ℕ, _^_, _<_}
 use lib.IntN.{ℤ, pos, _+ℤ_, _*ℤ_}
+use lib.Signed.{_<ℤ_}
 use Rattle.integers.specs.Integers.{isI64}
 use Rattle.errors.specs.Refusals.{Outcome, gives, refuses, refusal}
 use Rattle.moments.specs.declared.Moment.{Moment}
 use Rattle.calendar.specs.Walk.{date, monthLength}
 use Rattle.moments.specs.Moments.{momentAt, EarlierMoment}
+use Rattle.durations.specs.declared.Ordering.{Ordering}
+use Rattle.durations.specs.declared.Ordering.the-variants.{Less, Equal, Greater}
 use Rattle.counts.specs.Counts.{exact}
 
 -- a signed 64-bit number
@@ -49,6 +52,18 @@ pub record Reaches (epoch secs : ℤ) (m : Moment) : Type 0 where
 pub data EarlierReading (m : Moment) (nanos : ℕ) (m′ : Moment) (nanos′ : ℕ) : Type 0 where
   by-moment : EarlierMoment m m′ → EarlierReading m nanos m′ nanos′
   by-nanos : m ≡ m′ → nanos < nanos′ → EarlierReading m nanos m′ nanos′
+
+-- how two exact counts stand that compare so
+abbrev pub Stand : Ordering → ℤ → ℤ → Type 0
+Stand Less y z = y <ℤ z
+Stand Equal y z = y ≡ z
+Stand Greater y z = z <ℤ y
+
+-- how two timestamps read over one epoch that compare so
+abbrev pub Read : Ordering → Moment → ℕ → Moment → ℕ → Type 0
+Read Less m nanos m′ nanos′ = EarlierReading m nanos m′ nanos′
+Read Equal m nanos m′ nanos′ = (m ≡ m′) × (nanos ≡ nanos′)
+Read Greater m nanos m′ nanos′ = EarlierReading m′ nanos′ m nanos
 
 -- an outcome is the timestamp that lies at an exact count of nanoseconds; it is 10 exactly if none lies there
 pub record TimeLiesAt (z : ℤ) (o : Outcome (ℤ × ℕ)) : Type 0 where

@@ -18,7 +18,7 @@ use Rattle.moments.proofs.Moments.{year-within}
 use Rattle.counts.specs.Counts.{goodNanos}
 use Rattle.printed_parts.specs.declared.Precision.{Precision}
 use Rattle.printer.specs.Lent.{answer, lineAfter}
-use Rattle.printer.specs.Display.{stamp, timeText, displayed}
+use Rattle.printer.specs.Display.{instant, timeText, displayed}
 use Rattle.printer.proofs.Lent.{room}
 use Rattle.printer.proofs.Text.{text-bound}
 use Rattle.texts.specs.Texts.{bytes, natural}
@@ -30,7 +30,7 @@ module _ (secs : ℤ) (nanos : ℕ) (epoch : ℤ) (p : Precision) (s : List ℕ)
 
   short : nanos < 1000000000 → length text ≤ 38
   unfolding timeText text
-  short h = text-bound (stamp (momentAt (secs +ℤ epoch)) nanos) p (record { year = year-within secs epoch f g; nanos = h })
+  short h = text-bound (instant (momentAt (secs +ℤ epoch)) nanos) p (record { year = year-within secs epoch f g; nanos = h })
 
   -- what the answer says
   abbrev shown : Bool → List ℕ

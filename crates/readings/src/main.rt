@@ -1,13 +1,13 @@
-// The readings of document 01 that are run: a line for each, held to 01's answer in the file stdout.
+// The readings of document 01 that are run, and the constants: a line for each, held to 01's answer in the file stdout.
+use answers::put_refusal;
 use counts::DateTimeAnswer;
+use counts::Duration;
 use counts::Epoch;
 use counts::LeapOffset;
 use counts::TaiTime;
 use counts::TimeAnswer;
 use counts::UnixSeconds;
-use errors::CountError;
-use errors::DateTimeError;
-use errors::ParseDateTimeError;
+use errors::Refusal;
 use libc::STDOUT_FILENO;
 use printer::Precision;
 use printer::Printed;
@@ -23,38 +23,44 @@ fn write_front(line: &[u8], n: usize) {
     }
 }
 
-// A timestamp as its text over epoch 0, which tells its seconds and nanoseconds.
-fn show(t: TaiTime, precision: Precision) {
-    let mut line = [0u8; 40];
-    match printer::display(t, Epoch(0), precision, &mut line, 0) {
-        Printed::Length(n) => write_front(&line, n),
-        Printed::Refused(_) => write(b"refused"),
-    }
+fn refused(r: Refusal) {
+    let mut line = [0u8; 128];
+    let n = put_refusal(&mut line, r);
+    write_front(&line, n);
     write(b"\n");
 }
 
-fn unix(secs: i64, nanos: u32, leap: i64) {
-    match TaiTime::try_from_unix_timestamp(Epoch(0), UnixSeconds(secs), nanos, LeapOffset(leap)) {
-        TimeAnswer::At(t) => show(t, Precision::Default),
-        TimeAnswer::Refused(e) => match e {
-            CountError::NotRepresentable => write(b"refused 10\n"),
-            CountError::BadNanos => write(b"refused 11\n"),
-        },
+fn show_over(t: TaiTime, epoch: Epoch, precision: Precision) {
+    let mut line = [0u8; 40];
+    match printer::display(t, epoch, precision, &mut line, 0) {
+        Printed::Length(n) => {
+            write_front(&line, n);
+            write(b"\n");
+        }
+        Printed::Refused(e) => refused(e.refusal()),
     }
+}
+
+// A timestamp as its text over epoch 0, which tells its seconds and nanoseconds.
+fn show(t: TaiTime, precision: Precision) {
+    show_over(t, Epoch(0), precision);
+}
+
+fn told(answer: TimeAnswer) {
+    match answer {
+        TimeAnswer::At(t) => show(t, Precision::Default),
+        TimeAnswer::Refused(e) => refused(e.refusal()),
+    }
+}
+
+fn unix(secs: i64, nanos: u32, leap: i64) {
+    told(TaiTime::try_from_unix_timestamp(Epoch(0), UnixSeconds(secs), nanos, LeapOffset(leap)));
 }
 
 fn read(text: &[u8]) {
     match reader::from_str(text, Epoch(0)) {
         ReadAnswer::At(t) => show(t, Precision::Default),
-        ReadAnswer::Refused(e) => match e {
-            ParseDateTimeError::MissingField => write(b"refused 7\n"),
-            ParseDateTimeError::InvalidFieldWidth => write(b"refused 8\n"),
-            ParseDateTimeError::InvalidFieldValue => write(b"refused 9\n"),
-            ParseDateTimeError::RangeError(date) => match date {
-                DateTimeError::InvalidSecond(_) => write(b"refused 4 in a RangeError\n"),
-                _ => write(b"refused in a RangeError\n"),
-            },
-        },
+        ReadAnswer::Refused(e) => refused(e.refusal()),
     }
 }
 
@@ -62,8 +68,24 @@ fn read(text: &[u8]) {
 fn earliest_year() {
     match TaiTime::try_from_date_time(Epoch(0), -2147483648, 1, 1, 0, 0, 0, 0) {
         DateTimeAnswer::At(t) => show(t, Precision::Default),
-        DateTimeAnswer::Refused(_) => write(b"refused\n"),
+        DateTimeAnswer::Refused(e) => refused(e.refusal(false)),
     }
+}
+
+// The ends, that the longest duration lies between them, and the start of each named epoch.
+fn constants() {
+    show(TaiTime::MIN, Precision::Default);
+    show(TaiTime::MAX, Precision::Default);
+    told(TaiTime::MIN.checked_add(Duration {
+        secs: 18446744073709551615,
+        nanos: 999999999,
+    }));
+    show_over(TaiTime::EPOCH, Epoch::MONOTONIC_TIME, Precision::Default);
+    show_over(TaiTime::EPOCH, Epoch::GPS_TIME, Precision::Default);
+    show_over(TaiTime::EPOCH, Epoch::GST_TIME, Precision::Default);
+    show_over(TaiTime::EPOCH, Epoch::BDT_TIME, Precision::Default);
+    show_over(TaiTime::EPOCH, Epoch::TAI_1958_TIME, Precision::Default);
+    show_over(TaiTime::EPOCH, Epoch::TAI_1972_TIME, Precision::Default);
 }
 
 fn main() {
@@ -90,4 +112,5 @@ fn main() {
     show(fraction, Precision::Digits(2));
     show(fraction, Precision::Digits(20));
     show(TaiTime::EPOCH, Precision::Digits(3));
+    constants();
 }

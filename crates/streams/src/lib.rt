@@ -41,14 +41,24 @@ pub fn write(out: &[u8], n: usize) -> bool
     false
 }
 
-// One read, behind the bytes kept. There is room for a byte, so that none is the input's end, or an error, which is told.
-pub fn read_behind(input: &mut [u8], kept: usize) -> usize
+// How many bytes a read brought, none at the input's end, and whether it failed.
+pub struct Came {
+    pub bytes: usize,
+    pub failed: bool,
+}
+
+// One read, behind the bytes kept, where there is room for one. That it failed is told.
+pub fn read_behind(input: &mut [u8], kept: usize) -> Came
     requires { ⌜ kept < length (now input) ⌝ }
-    ensures { λ r. ⌜ kept + r ≤ length (now (input .exit)) ⌝ }
+    ensures { λ r. ⌜ kept + r .bytes ≤ length (now (input .exit)) ⌝ }
 {
     let got = libc::read(STDIN_FILENO, &mut input[kept..]);
-    if got < 0 {
+    let failed = got < 0;
+    if failed {
         os::fail(b"tai: standard input");
     }
-    io::count(got, &input[kept..])
+    Came {
+        bytes: io::count(got, &input[kept..]),
+        failed,
+    }
 }

@@ -6,7 +6,7 @@ use streams::write;
 ghost use Prim.Native.Nat.{_≤_};
 ghost use lib.ListN.{length};
 
-// The first `end` bytes of the input are there and not answered yet. A proved loop has to end, and nothing says that the
+// The first `end` bytes of the input are there and not answered yet; where a read fails, what of a line is there is not. A proved loop has to end, and nothing says that the
 // input does: no run uses up the count of turns.
 pub(crate) fn answer_input(input: &mut [u8], out: &mut [u8])
     requires { ⌜ (65536 ≤ length (now input)) × (65664 ≤ length (now out)) ⌝ }
@@ -26,9 +26,12 @@ pub(crate) fn answer_input(input: &mut [u8], out: &mut [u8])
             if ended {
                 return;
             }
-            let n = read_behind(input, end);
-            end += n;
-            ended = n == 0;
+            let came = read_behind(input, end);
+            if came.failed {
+                return;
+            }
+            end += came.bytes;
+            ended = came.bytes == 0;
         }
         turns -= 1;
     }
