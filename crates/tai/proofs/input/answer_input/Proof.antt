@@ -62,7 +62,7 @@ read-behind-requires c κs =
     rw (length-front (loop .input) (move-to-front .last .0) (loop .end) (move-to-front .kept .0)) (omega (arith, moved-count _ _ (move-to-front .ensures)))
 
 add-end : tie.Need-add-end Inv-loop μ-loop
-add-end c = omega (arith, c .before .before .read-behind .ensures)
+add-end c = omega (arith, c .before .before .before .before .read-behind .ensures)
 
 loop-again : tie.Need-loop-again Inv-loop μ-loop
 loop-again c =
@@ -72,17 +72,29 @@ loop-again c =
     let long = length-front (loop .input) (move-to-front .last .0) (loop .end) (move-to-front .kept .0) in
     let out = answer-lines .kept .1 .1 .1 .0 ∙ loop .inv .2 in
     ⊎-elim
-    (λ w. let l = ap length (w .6) in (omega (arith, w .7, w .3 .ensures), l ∙ w .3 .kept .0 ∙ long ∙ loop .inv .1, out))
+    (λ w. let l = ap length (w .9) in (omega (arith, w .10, w .3 .ensures), l ∙ w .3 .kept .0 ∙ long ∙ loop .inv .1, out))
     (λ w. let l = ap length (w .1) in
     let moved = moved-count _ _ (move-to-front .ensures) in
     (omega (arith, w .2, length-take (loop .end) (loop .input)), l ∙ long ∙ loop .inv .1, out))
     (c .if2 .came)
 
 same-length-5 : tie.Need-same-length-5 Inv-loop μ-loop
-same-length-5 c = c .before .loop .inv .1
+same-length-5 c =
+    let loop = c .before .before .before .before .before .before .before .before .before .before .before .before .before .before .before .before .before .before .before .before .before .loop in
+    let move-to-front = c .before .before .before .before .before .before .before .before .before .before .move-to-front in
+    c .before .before .before .read-behind .kept .0 ∙ length-front (loop .input) (move-to-front .last .0) (loop .end) (move-to-front .kept .0) ∙ loop .inv .1
 
 same-length-6 : tie.Need-same-length-6 Inv-loop μ-loop
-same-length-6 c = c .before .loop .inv .2
+same-length-6 c =
+    let answer-lines = c .before .before .before .before .before .before .before .before .before .before .before .before .before .before .before .before .before .answer-lines in
+    let loop = c .before .before .before .before .before .before .before .before .before .before .before .before .before .before .before .before .before .before .before .before .before .loop in
+    answer-lines .kept .1 .1 .1 .0 ∙ loop .inv .2
+
+same-length-7 : tie.Need-same-length-7 Inv-loop μ-loop
+same-length-7 c = c .before .loop .inv .1
+
+same-length-8 : tie.Need-same-length-8 Inv-loop μ-loop
+same-length-8 c = c .before .loop .inv .2
 
 pub answer-input-spec : {M : Type 1} → statement M
 answer-input-spec =
@@ -105,10 +117,13 @@ answer-input-spec =
     same-length-4
     (λ c. tt)
     read-behind-requires
+    same-length-5
+    same-length-6
+    (λ c. tt)
     add-end
     (λ c. omega arith)
     (λ c. omega arith)
     loop-again
-    same-length-5
-    same-length-6
+    same-length-7
+    same-length-8
     (λ c. tt))
