@@ -1,15 +1,16 @@
-//! The refusals, with the names of tai-time's errors.
+//! The refusals, with the names and texts of tai-time's errors, its slip in one of them included.
 
+use core::error::Error;
 use core::fmt;
 
-use crate::raw::TimeResult;
+use crate::Epoch;
 
 /// A result that no timestamp or duration holds (refusal 10).
-#[derive(Debug, PartialEq, Eq, Clone, Copy)]
-pub struct OutOfRangeError;
+#[derive(Clone, Copy, Debug, PartialEq, Eq)]
+pub struct OutOfRangeError(pub(crate) ());
 
 /// Calendar fields that are refused (0 to 6), each with the value that was wrong.
-#[derive(Debug, PartialEq, Eq, Clone, Copy)]
+#[derive(Clone, Copy, Debug, PartialEq, Eq)]
 pub enum DateTimeError {
     /// The month is not between 1 and 12.
     InvalidMonth(u8),
@@ -28,20 +29,20 @@ pub enum DateTimeError {
 }
 
 /// A text that is refused (7 to 9), or whose date is.
-#[derive(Debug, PartialEq, Eq, Clone, Copy)]
+#[derive(Clone, Copy, Debug, PartialEq, Eq)]
 pub enum ParseDateTimeError {
-    /// A delimiter is absent, or nothing follows the point.
-    MissingField,
-    /// A field has the wrong width.
-    InvalidFieldWidth,
     /// A field is no number, or too large.
     InvalidFieldValue,
+    /// A field has the wrong width.
+    InvalidFieldWidth,
+    /// A delimiter is absent, or nothing follows the point.
+    MissingField,
     /// The text was read, and its date is refused.
     RangeError(DateTimeError),
 }
 
 /// A line that has no place for a text (12, 13).
-#[derive(Debug, PartialEq, Eq, Clone, Copy)]
+#[derive(Clone, Copy, Debug, PartialEq, Eq)]
 pub enum PrintError {
     /// The place lies beyond the line's length.
     StartOutside,
@@ -49,34 +50,16 @@ pub enum PrintError {
     NoRoom,
 }
 
-/// The refusal of calendar fields that a result tells, if it tells one.
-pub(crate) fn date_time_error(r: &TimeResult) -> Option<DateTimeError> {
-    let small = r.value as u8;
-    Some(match r.refusal {
-        0 => DateTimeError::InvalidMonth(small),
-        1 => DateTimeError::InvalidDayOfMonth(small),
-        2 => DateTimeError::InvalidHour(small),
-        3 => DateTimeError::InvalidMinute(small),
-        4 => DateTimeError::InvalidSecond(small),
-        5 => DateTimeError::InvalidNanosecond(r.value),
-        6 => DateTimeError::OutOfRange,
-        _ => return None,
-    })
-}
-
-/// The refusal of a text that a result tells, if it tells one.
-pub(crate) fn parse_error(r: &TimeResult) -> Option<ParseDateTimeError> {
-    Some(match r.refusal {
-        7 => ParseDateTimeError::MissingField,
-        8 => ParseDateTimeError::InvalidFieldWidth,
-        9 => ParseDateTimeError::InvalidFieldValue,
-        _ => ParseDateTimeError::RangeError(date_time_error(r)?),
-    })
+/// A stamp over another epoch than the type names.
+#[derive(Clone, Copy, Debug, PartialEq, Eq)]
+pub struct EpochMismatchError {
+    pub(crate) given: Epoch,
+    pub(crate) wanted: Epoch,
 }
 
 impl fmt::Display for OutOfRangeError {
     fn fmt(&self, f: &mut fmt::Formatter<'_>) -> fmt::Result {
-        f.write_str("timestamp out of representable range")
+        "timestamp out of representable range".fmt(f)
     }
 }
 
@@ -91,7 +74,7 @@ impl fmt::Display for DateTimeError {
             Self::InvalidMinute(min) => write!(f, "minute numeral '{min}' is not valid"),
             Self::InvalidSecond(sec) => write!(f, "second numeral '{sec}' is not valid"),
             Self::InvalidNanosecond(nano) => write!(f, "nanosecond value '{nano}' is not valid"),
-            Self::OutOfRange => f.write_str("timestamp outside representable range"),
+            Self::OutOfRange => "timestamp outside representable range".fmt(f),
         }
     }
 }
@@ -99,9 +82,9 @@ impl fmt::Display for DateTimeError {
 impl fmt::Display for ParseDateTimeError {
     fn fmt(&self, f: &mut fmt::Formatter<'_>) -> fmt::Result {
         match self {
-            Self::MissingField => f.write_str("a field is missing"),
-            Self::InvalidFieldWidth => f.write_str("the width of one of the fields is invalid"),
-            Self::InvalidFieldValue => f.write_str("one of the fields is invalid"),
+            Self::InvalidFieldValue => "one of the fields is invalid".fmt(f),
+            Self::InvalidFieldWidth => "the width of one of the fields is invalid".fmt(f),
+            Self::MissingField => "a fields is missing".fmt(f),
             Self::RangeError(error) => error.fmt(f),
         }
     }
@@ -116,7 +99,15 @@ impl fmt::Display for PrintError {
     }
 }
 
-impl std::error::Error for OutOfRangeError {}
-impl std::error::Error for DateTimeError {}
-impl std::error::Error for ParseDateTimeError {}
-impl std::error::Error for PrintError {}
+impl fmt::Display for EpochMismatchError {
+    fn fmt(&self, f: &mut fmt::Formatter<'_>) -> fmt::Result {
+        let (given, wanted) = (self.given.0, self.wanted.0);
+        write!(f, "the stamp counts from {given}, and not from {wanted}")
+    }
+}
+
+impl Error for OutOfRangeError {}
+impl Error for DateTimeError {}
+impl Error for ParseDateTimeError {}
+impl Error for PrintError {}
+impl Error for EpochMismatchError {}
