@@ -16,6 +16,7 @@ use chrono::{DateTime, NaiveDateTime};
 use humantime::Rfc3339Timestamp;
 use line::Line;
 use oracle::Random;
+use port::Epoch;
 use time::OffsetDateTime;
 use time::format_description::well_known::Rfc3339;
 use timing::Report;
@@ -89,7 +90,7 @@ impl Moments {
 /// The port's text.
 fn text(secs: u64, nanos: u32) -> String {
     let mut line = [0; 64];
-    let length = port::display(secs as i64, nanos, 0, None, &mut line, 0).length;
+    let length = port::display(Epoch(0), secs as i64, nanos, None, &mut line, 0).length;
     String::from_utf8_lossy(&line[..length]).into_owned()
 }
 
@@ -128,7 +129,7 @@ fn printing(report: &mut Report, moments: &Moments) {
         let mut lent = [0; 64];
         for stamp in &moments.stamps {
             let &(secs, nanos) = black_box(stamp);
-            black_box(port::display(secs, nanos, 0, None, &mut lent, 0));
+            black_box(port::display(Epoch(0), secs, nanos, None, &mut lent, 0));
             black_box(&mut lent);
         }
     };
@@ -167,11 +168,11 @@ fn reading(report: &mut Report, moments: &Moments) {
     };
     let port = || {
         for text in &moments.spaced {
-            black_box(&port::from_str(black_box(text).as_bytes(), 0));
+            black_box(&port::from_str(Epoch(0), black_box(text).as_bytes()));
         }
     };
     for (text, own) in moments.spaced.iter().zip(&moments.rfc3339) {
-        accepted(port::from_str(text.as_bytes(), 0)).expect("a moment");
+        accepted(port::from_str(Epoch(0), text.as_bytes())).expect("a moment");
         humantime::parse_rfc3339_weak(text).expect("a moment");
         OffsetDateTime::parse(own, &Rfc3339).expect("a moment");
         DateTime::parse_from_rfc3339(own).expect("a moment");

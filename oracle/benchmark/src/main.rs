@@ -11,6 +11,7 @@ use std::hint::black_box;
 use inputs::{CALLS, Inputs, Stamps};
 use line::Line;
 use oracle::DateTime;
+use port::Epoch;
 use tai_time::{DateTimeError, MonotonicTime};
 use timing::Report;
 
@@ -46,9 +47,9 @@ fn main() {
 fn both_agree(stamps: &Stamps) {
     let mut line = [0; 64];
     for (stamp, text) in stamps.stamps.iter().zip(&stamps.texts) {
-        let length = port::display(stamp.secs, stamp.nanos, 0, None, &mut line, 0).length;
+        let length = port::display(Epoch(0), stamp.secs, stamp.nanos, None, &mut line, 0).length;
         assert_eq!(&line[..length], text.as_bytes());
-        let read = port::from_str(text.as_bytes(), 0);
+        let read = port::from_str(Epoch(0), text.as_bytes());
         assert_eq!((read.secs, read.nanos), (stamp.secs, stamp.nanos));
     }
 }
@@ -58,7 +59,7 @@ fn printing(report: &mut Report, stamps: &Stamps) {
     let port = || {
         for stamp in &stamps.stamps {
             let stamp = black_box(stamp);
-            let printed = port::display(stamp.secs, stamp.nanos, 0, None, &mut lent, 0);
+            let printed = port::display(Epoch(0), stamp.secs, stamp.nanos, None, &mut lent, 0);
             black_box(printed);
             black_box(&mut lent);
         }
@@ -77,7 +78,7 @@ fn printing(report: &mut Report, stamps: &Stamps) {
 fn reading(report: &mut Report, stamps: &Stamps) {
     let port = || {
         for text in &stamps.texts {
-            black_box(&port::from_str(black_box(text).as_bytes(), 0));
+            black_box(&port::from_str(Epoch(0), black_box(text).as_bytes()));
         }
     };
     let rust = || {
@@ -99,7 +100,14 @@ fn dates(report: &mut Report, inputs: &Inputs) {
         for date in &inputs.dates {
             let d = black_box(date);
             black_box(&port::tai_try_from_date_time(
-                0, d.year, d.month, d.day, d.hour, d.min, d.sec, d.nano,
+                Epoch(0),
+                d.year,
+                d.month,
+                d.day,
+                d.hour,
+                d.min,
+                d.sec,
+                d.nano,
             ));
         }
     };
@@ -153,7 +161,10 @@ fn sums(report: &mut Report, inputs: &Inputs) {
 fn moments(report: &mut Report, near: &Stamps) {
     let port = || {
         for stamp in &near.stamps {
-            black_box(&port::tai_secs_to_date_time(black_box(stamp).secs, 0));
+            black_box(&port::tai_secs_to_date_time(
+                Epoch(0),
+                black_box(stamp).secs,
+            ));
         }
     };
     let rust = || {

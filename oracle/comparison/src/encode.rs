@@ -3,7 +3,7 @@
 use std::cmp::Ordering;
 
 use oracle::{Answer, Duration, Refusal, Timestamp};
-use port::{DurationResult, MomentResult, OrderingResult, TimeResult};
+use port::{DurationResult, MomentResult, OrderingResult, TimeResult, UnixResult, UnixSeconds};
 
 /// The value, or the refusal; the inputs of the comparison never leave the domain.
 fn outcome<T>(answer: Answer<T>) -> Result<T, Refusal> {
@@ -40,9 +40,15 @@ pub fn time(answer: Answer<Timestamp>) -> TimeResult {
     }
 }
 
-/// Unix seconds stand alone.
-pub fn unix(answer: Answer<i64>) -> TimeResult {
-    time(answer.map(|secs| Timestamp { secs, nanos: 0 }))
+pub fn unix(answer: Answer<i64>) -> UnixResult {
+    let (refusal, secs) = match outcome(answer) {
+        Ok(secs) => (-1, secs),
+        Err(refusal) => (refusal.number().into(), 0),
+    };
+    UnixResult {
+        refusal,
+        secs: UnixSeconds(secs),
+    }
 }
 
 pub fn duration(answer: Answer<Duration>) -> DurationResult {

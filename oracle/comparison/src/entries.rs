@@ -1,7 +1,7 @@
 //! One case of each entry but the printer: both sides are asked and held against each other.
 
 use oracle::{DateTime, Duration, Timestamp};
-use port::TimeResult;
+use port::{Epoch, LeapOffset, TimeResult, UnixSeconds};
 
 use crate::encode;
 use crate::tally::{Entry, Tally};
@@ -38,7 +38,7 @@ pub fn try_from_date_time(tally: &mut Tally, epoch: i64, date: DateTime) {
     } else {
         rust = encode::time(oracle::try_from_date_time(epoch, date));
     }
-    let port = port::tai_try_from_date_time(epoch, year, month, day, hour, min, sec, nano);
+    let port = port::tai_try_from_date_time(Epoch(epoch), year, month, day, hour, min, sec, nano);
     tally.hold(Entry::TryFromDateTime, rust, port, || {
         format!("date {epoch} {year} {month} {day} {hour} {min} {sec} {nano}")
     });
@@ -46,7 +46,8 @@ pub fn try_from_date_time(tally: &mut Tally, epoch: i64, date: DateTime) {
 
 pub fn try_from_unix_timestamp(tally: &mut Tally, epoch: i64, secs: i64, nanos: u32, leap: i64) {
     let rust = encode::time(oracle::try_from_unix_timestamp(epoch, secs, nanos, leap));
-    let port = port::tai_try_from_unix_timestamp(epoch, secs, nanos, leap);
+    let (over, unix, offset) = (Epoch(epoch), UnixSeconds(secs), LeapOffset(leap));
+    let port = port::tai_try_from_unix_timestamp(over, unix, nanos, offset);
     tally.hold(Entry::TryFromUnixTimestamp, rust, port, || {
         format!("unix {epoch} {secs} {nanos} {leap}")
     });
@@ -54,7 +55,7 @@ pub fn try_from_unix_timestamp(tally: &mut Tally, epoch: i64, secs: i64, nanos: 
 
 pub fn as_unix_secs(tally: &mut Tally, epoch: i64, stamp: Timestamp, leap: i64) {
     let rust = encode::unix(oracle::as_unix_secs(epoch, stamp, leap));
-    let port = port::tai_as_unix_secs(stamp.secs, stamp.nanos, epoch, leap);
+    let port = port::tai_as_unix_secs(Epoch(epoch), stamp.secs, stamp.nanos, LeapOffset(leap));
     tally.hold(Entry::AsUnixSecs, rust, port, || {
         format!("to-unix {epoch} {stamp} {leap}")
     });
@@ -62,7 +63,7 @@ pub fn as_unix_secs(tally: &mut Tally, epoch: i64, stamp: Timestamp, leap: i64) 
 
 pub fn to_tai_time(tally: &mut Tally, from: i64, to: i64, stamp: Timestamp) {
     let rust = encode::time(oracle::to_tai_time(from, to, stamp));
-    let port = port::tai_to_tai_time(stamp.secs, stamp.nanos, from, to);
+    let port = port::tai_to_tai_time(Epoch(from), Epoch(to), stamp.secs, stamp.nanos);
     tally.hold(Entry::ToTaiTime, rust, port, || {
         format!("epoch {from} {to} {stamp}")
     });
@@ -123,7 +124,7 @@ pub fn read_back(tally: &mut Tally, epoch: i64, stamp: Timestamp, text: &str) {
 fn read(epoch: i64, text: &str) -> (TimeResult, TimeResult) {
     (
         encode::time(oracle::from_str(epoch, text.as_bytes())),
-        port::from_str(text.as_bytes(), epoch),
+        port::from_str(Epoch(epoch), text.as_bytes()),
     )
 }
 

@@ -4,7 +4,7 @@ use std::fmt::{self, Write};
 use std::hint::black_box;
 
 use oracle::Timestamp;
-use port::LengthResult;
+use port::{Epoch, LengthResult};
 
 use crate::encode;
 use crate::tally::{Entry, Tally};
@@ -133,7 +133,7 @@ fn lend(
         precision,
     } = asked;
     let line = &mut port[MARGIN..MARGIN + len];
-    let given = port::display(stamp.secs, stamp.nanos, epoch, precision, line, at);
+    let given = port::display(Epoch(epoch), stamp.secs, stamp.nanos, precision, line, at);
     let port = black_box(port);
     tally.cases[entry as usize] += 1;
     if given != wanted || rust != port {
@@ -209,7 +209,7 @@ pub fn everywhere(tally: &mut Tally, asked: Asked) {
 pub fn moment(tally: &mut Tally, asked: Asked, text: &Text) {
     let (secs, epoch) = (asked.stamp.secs, asked.epoch);
     let rust = encode::moment(text.as_str());
-    let port = port::tai_secs_to_date_time(secs, epoch);
+    let port = port::tai_secs_to_date_time(Epoch(epoch), secs);
     tally.hold(Entry::SecsToDateTime, rust, port, || {
         format!("the moment at {secs} over {epoch}")
     });
