@@ -1,7 +1,8 @@
 //! Links the archive; `oracle/port` uses this file too, from a folder as deep.
 
 use std::env;
-use std::fs;
+use std::fs::{self, File};
+use std::hash::{DefaultHasher, Hash, Hasher};
 use std::path::{Path, PathBuf};
 use std::time::SystemTime;
 
@@ -48,6 +49,7 @@ fn own_archive() -> Result<PathBuf, String> {
     // Read now: `env!` would keep the folder of the checkout that compiled this program first.
     let package = PathBuf::from(env::var_os("CARGO_MANIFEST_DIR").expect("cargo sets it"));
     let root = package.join("../..");
+    let root = root.canonicalize().unwrap_or(root);
     let archive = root.join("target/staticlib/librecords_box.a");
     let Some(made) = changed(&archive) else {
         return Err(format!(
@@ -55,6 +57,7 @@ fn own_archive() -> Result<PathBuf, String> {
             archive.display()
         ));
     };
+    mark(&root, &archive, made);
     let mut sources = vec![root.join("crates.txt")];
     add_sources(&root.join("crates"), &mut sources);
     for source in sources {
@@ -71,6 +74,19 @@ fn own_archive() -> Result<PathBuf, String> {
         }
     }
     Ok(archive)
+}
+
+/// Two checkouts that share a target folder are one package to cargo, and the second would be linked as the first was. A
+/// file named after this checkout, which cargo looks for from the package's folder, is missing in the other.
+fn mark(root: &Path, archive: &Path, time: SystemTime) {
+    let mut hasher = DefaultHasher::new();
+    root.hash(&mut hasher);
+    let name = format!("linked-{:016x}", hasher.finish());
+    let marked =
+        File::create(archive.with_file_name(&name)).and_then(|file| file.set_modified(time));
+    if marked.is_ok() {
+        println!("cargo::rerun-if-changed=../../target/staticlib/{name}");
+    }
 }
 
 /// Every `.rt` file below the folder, if there is one.

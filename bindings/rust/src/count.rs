@@ -101,6 +101,23 @@ impl Count {
     /// # Errors
     ///
     /// A sum on the way (carry, then leap seconds, then epoch) leaves `i64`.
+    ///
+    /// ```
+    /// use admezgast::{Count, Epoch, LeapOffset, UnixSeconds};
+    ///
+    /// let (unix, leap) = (UnixSeconds(1_700_000_000), LeapOffset(37));
+    /// let count = Count::try_from_unix_timestamp(Epoch::GPS_TIME, unix, 0, leap);
+    /// assert_eq!(count, Ok(Count::new(1_384_035_218, 0).unwrap()));
+    /// ```
+    ///
+    /// Two of the numbers swapped do not compile:
+    ///
+    /// ```compile_fail,E0308
+    /// use admezgast::{Count, Epoch, LeapOffset, UnixSeconds};
+    ///
+    /// let (unix, leap) = (UnixSeconds(1_700_000_000), LeapOffset(37));
+    /// let count = Count::try_from_unix_timestamp(Epoch::GPS_TIME, leap, 0, unix);
+    /// ```
     pub fn try_from_unix_timestamp(
         epoch: Epoch,
         secs: UnixSeconds,

@@ -23,8 +23,8 @@ pub type Tai1972Time = TaiTime<{ Epoch::TAI_1972_TIME.0 }>;
 
 /// Seconds from the epoch that the type names, and nanoseconds below 10^9 that count forward from there.
 ///
-/// `EPOCH_REF` is the epoch in seconds from 1970-01-01 00:00:00 TAI. `Display` takes a precision, as `{:.3}`. Each epoch
-/// has an order of its own, and no other type's timestamp is taken for one of it.
+/// `EPOCH_REF` is the epoch in seconds from 1970-01-01 00:00:00 TAI. Timestamps over two epochs are of two types, and
+/// comparing them does not compile. `Display` takes a precision, as `{:.3}`.
 ///
 /// ```
 /// use admezgast::{GpsTime, MonotonicTime, TaiTime};

@@ -25,14 +25,24 @@ fn methods_take_and_give_the_same_types() {
     let _: fn(GpsTime, GpsTime) -> Option<Duration> = GpsTime::checked_duration_since;
 }
 
+/// Read when the program is compiled.
+const ENDS: [(i64, u32); 3] = [
+    (GpsTime::MIN.as_secs(), GpsTime::MIN.subsec_nanos()),
+    (GpsTime::EPOCH.as_secs(), GpsTime::EPOCH.subsec_nanos()),
+    (GpsTime::MAX.as_secs(), GpsTime::MAX.subsec_nanos()),
+];
+
+fn timestamp<T>()
+where
+    T: Copy + Debug + Default + Eq + Hash + Ord + Display + Send + Sync,
+    T: FromStr<Err = ParseDateTimeError>,
+{
+}
+
+fn error<T: Clone + Debug + Display + Eq + Send + Sync>() {}
+
 #[test]
 fn types_have_the_same_epochs_constants_and_traits() {
-    fn timestamp<T: Copy + Debug + Default + Eq + Hash + Ord + Display + Send + Sync>()
-    where
-        T: FromStr<Err = ParseDateTimeError>,
-    {
-    }
-    fn error<T: Clone + Debug + Display + Eq + Send + Sync>() {}
     timestamp::<GpsTime>();
     error::<OutOfRangeError>();
     error::<DateTimeError>();
@@ -44,11 +54,6 @@ fn types_have_the_same_epochs_constants_and_traits() {
     let _: TaiTime<1_136_073_633> = BdtTime::EPOCH;
     let _: TaiTime<-378_691_200> = Tai1958Time::EPOCH;
     let _: TaiTime<63_072_000> = Tai1972Time::EPOCH;
-    const ENDS: [(i64, u32); 3] = [
-        (GpsTime::MIN.as_secs(), GpsTime::MIN.subsec_nanos()),
-        (GpsTime::EPOCH.as_secs(), GpsTime::EPOCH.subsec_nanos()),
-        (GpsTime::MAX.as_secs(), GpsTime::MAX.subsec_nanos()),
-    ];
     assert_eq!(ENDS, [(i64::MIN, 0), (0, 0), (i64::MAX, 999_999_999)]);
 }
 
