@@ -1,15 +1,16 @@
 //! Timestamps, calendar, text and durations for the records box: tai-time 1.0.0's types and methods over the proved
 //! library.
 //!
-//! Every method is a call of the archive `librecords_box.a`, whose functions are proved; what stands here is the
-//! boundary: types, lengths, pointers, and the numbers of refusals.
+//! What is worked out is worked out by the archive `librecords_box.a`, whose functions are proved; what stands here is the
+//! boundary: types and their equality, lengths, pointers, and the numbers of refusals.
 //!
 //! # The epoch in the type
 //!
 //! [`TaiTime`] has its epoch in its type, under tai-time's aliases [`MonotonicTime`], [`GpsTime`], [`GstTime`],
 //! [`BdtTime`], [`Tai1958Time`] and [`Tai1972Time`], and tai-time's methods, arguments, results, errors and texts. A
 //! program changes its `use` lines, or none with `tai-time = { package = "admezgast", path = … }` in its manifest.
-//! Left out are clocks, system time, features, operators and the forms that panic.
+//! Left out are clocks, system time, the features, operators and the forms that panic; and only reading the parts and the
+//! constants is `const`.
 //!
 //! A quad may leave if its gas was analysed after the last fill:
 //!

@@ -97,7 +97,7 @@ pub struct Moment {
 }
 
 impl Moment {
-    pub(crate) fn of(m: MomentResult) -> Self {
+    pub(crate) const fn of(m: MomentResult) -> Self {
         Self {
             year: m.year,
             month: m.month,

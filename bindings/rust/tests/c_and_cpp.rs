@@ -115,8 +115,8 @@ fn every_entry_answers_from_c_and_cpp() {
     let numbers: String = epochs.map(|epoch| format!("{} ", epoch.0)).concat();
     let constants = format!("{numbers}{LONGEST_TEXT}\n");
     for language in LANGUAGES {
-        let program = PathBuf::from(env!("CARGO_TARGET_TMPDIR")).join(language.program);
-        let program = program.with_extension(language.word);
+        let program = format!("every_entry-{}", language.word);
+        let program = PathBuf::from(env!("CARGO_TARGET_TMPDIR")).join(program);
         let mut compiler = language.compiler();
         compiler.arg(header_folder().join("tests").join(language.program));
         compiler.arg(env!("RECORDS_BOX")).arg("-o").arg(&program);
