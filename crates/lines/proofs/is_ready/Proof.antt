@@ -1,5 +1,8 @@
 -- `lines::is_ready`: the tests in the definition's order.
 use mathlib.Core.Bool.{or-true}
+use native.Mathlib.Omega.{arith}
+use lib.ListN.{length}
+use denote.Ref.{now}
 use borrow.Author.Tests.{lt-ltb, le-ltb}
 use Rattle.lines.specs.Lines.{ready}
 use Rattle.lines.proofs.is_ready.Statement.{statement}
@@ -11,7 +14,7 @@ returns c = rw (← c .before .pre, lt-ltb _ _ (c .if1 .taken))
 
 returns-2 : tie.Need-returns-2
 unfolding ready
-returns-2 c = rw (lt-ltb 65535 _ (c .if2 .taken), or-true)
+returns-2 c = rw (lt-ltb 65535 (length (now (c .before .before .args .s))) (omega (arith, c .if2 .taken)), or-true)
 
 returns-3 : tie.Need-returns-3
 unfolding ready
