@@ -2,30 +2,32 @@
 
 function finding(word, why) { print FILENAME ":" FNR ": " word ": " why; findings++ }
 
+function is_document() { return FILENAME ~ /\.md$/ && FILENAME !~ /^docs\/landings\// }
+
 function folder(path) { return sub(/\/[^\/]*$/, "", path) ? path : "" }
 
-# A file's name, with its ending and without, and the folders' names count as declared.
-function enter(path,  k, n, part) {
+# The names of crates, and those of files, with their endings and without, count as declared.
+function enter(path,  n, part) {
     list[++files] = path
     n = split(path, part, "/")
-    for (k = 1; k <= n; k++) declared[part[k]] = 1
-    if (n > 3 && part[1] == "crates") of_crates[part[3]] = 1
+    if (n > 3 && part[1] == "crates") { declared[part[2]] = 1; of_crates[part[3]] = 1 }
+    declared[part[n]] = 1
     if (part[n] ~ /\.md$/) document[part[n]] = 1
     if (sub(/\.edit$/, "", part[n])) editions[part[n]]++
     else if (sub(/\.[a-z]+$/, "", part[n])) declared[part[n]] = 1
     for (; path != "" && !(path in there); path = folder(path)) there[path] = 1
 }
 
-# ---- the code: its words, and those that it declares
+# ---- the code: its words, where they stand, and those that it declares; an .antt file has those that it declares
 
-function has(word,  path) {
-    said[word] = 1
-    for (path = FILENAME; path != ""; path = folder(path)) stands[path, word] = 1
-}
+function stands_here(word,  path) { for (path = FILENAME; path != ""; path = folder(path)) stands[path, word] = 1 }
 
 function has_words(line, bounds,  k, n, word) {
     n = split(line, word, bounds)
-    for (k = 1; k <= n; k++) if (word[k] != "") has(word[k])
+    for (k = 1; k <= n; k++) if (word[k] != "") {
+        said[word[k]] = 1
+        if (FILENAME !~ /\.antt$/) stands_here(word[k])
+    }
 }
 
 function declare_all(line, pattern,  word) {
@@ -45,10 +47,13 @@ function read_code(line,  k, n, part) {
         has_words(line, "[][ \t(){};,.\"]+")
         sub(/^ */, "", line)
         while (sub(/^(pub|abbrev|unfoldable|private|opaque) +/, "", line)) ;
-        if (sub(/^(record|data|module) +/, "", line) || line ~ /^[^ ]+ : /) { sub(/ .*/, "", line); declared[line] = 1 }
+        if (!sub(/^(record|data|module) +/, "", line) && line !~ /^[^ ]+ : /) return
+        sub(/ .*/, "", line)
+        declared[line] = 1
+        stands_here(line)
         return
     }
-    sub(FILENAME ~ /\.(rt|rs|h)$/ ? "//.*" : "(^|[ \t])#.*", "", line)
+    sub(FILENAME ~ /\.(rt|rs|h|c|cpp)$/ ? "//.*" : "(^|[ \t])#.*", "", line)
     has_words(line, "[^A-Za-z0-9_]+")
     has_words(line, "[^A-Za-z0-9_-]+")
     if (FILENAME !~ /\.(rt|rs|h|py)$/) return
@@ -61,7 +66,7 @@ function read_code(line,  k, n, part) {
 
 function is_path(word) {
     if (word !~ /[A-Za-z]/ || word ~ /[^A-Za-z0-9_.*\/-]/) return 0
-    return word ~ /\// || word ~ /\.(antt|rt|rs|c|h|md|py|awk|txt|toml|edit|requests|answers)$/
+    return word ~ /\// || word ~ /\.(antt|rt|rs|h|c|cpp|md|py|awk|txt|toml|edit|requests|answers)$/
 }
 
 # What a word means from a folder, if it is there, and nothing else. The edits meant are cited, but those of any crate.
@@ -202,11 +207,13 @@ function read_document(line,  k, n, part) {
     compare_places()
 }
 
-# What is asked of every file.
+# What is asked of every file; the code spans of documents are read apart.
 function read_any(line,  rest, word) {
     if (match(line, /(^|[^A-Za-z0-9_.~*\/)}-])\/(work|tmp|root|home)([^A-Za-z0-9_-]|$)/))
         finding(substr(line, RSTART, 30), "a path of a machine")
-    for (rest = line; match(rest, /[A-Za-z0-9_.\/-]*[A-Za-z0-9_-]\.md/); rest = substr(rest, RSTART + RLENGTH)) {
+    rest = line
+    if (is_document()) gsub(/`[^`]*`/, "", rest)
+    for (; match(rest, /[A-Za-z0-9_.\/-]*[A-Za-z0-9_-]\.md/); rest = substr(rest, RSTART + RLENGTH)) {
         word = substr(rest, RSTART, RLENGTH)
         if (resolved(word) == "" && !(word in document)) finding(word, "no document of this repository")
     }
@@ -223,9 +230,8 @@ BEGIN { claims = "docs/CLAIMS.md" }
 FILENAME == "-" || FILENAME == "" { enter($0); next }
 FNR == 1 { bases = fenced = in_table = 0 }
 { read_any($0) }
-FILENAME ~ /^docs\/(landings|src)\/.*\.md$/ { next }
-FILENAME ~ /\.md$/ { read_document($0); next }
-{ read_code($0) }
+is_document() { read_document($0); next }
+FILENAME !~ /\.md$/ { read_code($0) }
 
 END {
     for (k = 1; k <= files; k++) if (list[k] ~ /\/must-fail\/.*\.edit$/ && !(list[k] in cited)) {
