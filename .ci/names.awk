@@ -231,7 +231,7 @@ FILENAME == "-" || FILENAME == "" { enter($0); next }
 FNR == 1 { bases = fenced = in_table = 0 }
 { read_any($0) }
 is_document() { read_document($0); next }
-FILENAME !~ /\.md$/ { read_code($0) }
+FILENAME !~ /\.(md|edit)$/ { read_code($0) }
 
 END {
     for (k = 1; k <= files; k++) if (list[k] ~ /\/must-fail\/.*\.edit$/ && !(list[k] in cited)) {
