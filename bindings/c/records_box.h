@@ -29,7 +29,7 @@ static const tai_epoch TAI_EPOCH_BDT = {1136073633};    /* BeiDou, 2006-01-01 00
 static const tai_epoch TAI_EPOCH_TAI1958 = {-378691200}; /* 1958-01-01 00:00:00 TAI */
 static const tai_epoch TAI_EPOCH_TAI1972 = {63072000};  /* 1972-01-01 00:00:00 TAI */
 
-/* No text that is written has more bytes. */
+/* No text that is written has more bytes; no NUL is written behind it. */
 #define TAI_LONGEST_TEXT 38
 
 /* value, where there is one, stands in brackets. */
@@ -115,11 +115,12 @@ tai_duration_result tai_checked_duration_since(int64_t secs, uint32_t nanos, int
 /* The first count against the second. Refuses 11, of either. */
 tai_ordering_result tai_cmp(int64_t secs, uint32_t nanos, int64_t other_secs, uint32_t other_nanos);
 
-/* Reads a text, any bytes. Refuses 7 to 9 while reading; then the date, 0 to 4 or 6, in_range_error 1. text may not be
+/* Reads a text, any bytes: [+-]YYYY-MM-DD hh:mm:ss[.d...], the year of four digits or more, the blank also T or t.
+ * Refuses 7 to 9 while reading; then the date, 0 to 6, in_range_error 1. text may not be
  * null, also where text_len is 0. */
 tai_time_result tai_from_str(tai_epoch epoch, const uint8_t *text, size_t text_len);
 
-/* Writes the text of a count into the line from the place at, and tells its length. given 0: no precision, all digits
+/* Writes the text of a count, [-]YYYY-MM-DD hh:mm:ss[.d...], into the line from the place at, and tells its length. given 0: no precision, all digits
  * but trailing zeros; else digits of the fraction, at most nine, cut. Refuses 11, 12, 13, in this order, and then leaves
  * the line; else no byte before at or behind the text is touched. line may not be null, also where line_len is 0. */
 tai_length_result tai_display(tai_epoch epoch, int64_t secs, uint32_t nanos, int32_t given, size_t digits,

@@ -12,8 +12,8 @@ const VARIABLE: &str = "ADMEZGAST_ARCHIVE";
 fn main() {
     println!("cargo::rerun-if-env-changed={VARIABLE}");
     let found = fits_target().and_then(|()| match env::var_os(VARIABLE) {
-        Some(named) => named_archive(PathBuf::from(named)),
-        None => own_archive(),
+        Some(named) if !named.is_empty() => named_archive(PathBuf::from(named)),
+        _ => own_archive(),
     });
     match found {
         Ok(archive) => link(&archive),

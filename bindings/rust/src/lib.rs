@@ -44,7 +44,7 @@
 //! Where the epoch is known only when the program runs, [`Count`] takes it as an [`Epoch`] with each call. An epoch, a
 //! [`LeapOffset`] and [`UnixSeconds`] are three types, and one does not pass for another. A count does not tell its
 //! epoch, so that counts over unlike epochs can be compared, and the answer says nothing; a [`Stamp`] is a count with its
-//! epoch, to be printed or handed about, and has no order.
+//! epoch, to be printed or handed about, and has no order: to compare two, bring one to the other's epoch.
 //!
 //! ```
 //! use admezgast::{Count, Epoch, GpsTime, LeapOffset, UnixSeconds};
@@ -57,12 +57,16 @@
 //! let stamp = count.over(Epoch::GPS_TIME);
 //! assert_eq!(stamp.to_string(), "2023-11-14 22:13:57");
 //! assert_eq!(GpsTime::try_from(stamp).unwrap().as_secs(), 1_384_035_218);
+//!
+//! let later = Count::new(1_700_000_038, 0).unwrap().over(Epoch::MONOTONIC_TIME);
+//! let moved = stamp.count().change_epoch(stamp.epoch(), later.epoch());
+//! assert!(moved.is_some_and(|moved| moved < later.count()));
 //! ```
 //!
 //! # Panics
 //!
-//! No call panics, whatever it is given. Where the archive answers with a refusal that this crate does not know, the two
-//! are not of one version; the call then panics and names its entry and the number, and never takes it for an answer.
+//! No value that a call is given makes it panic. Where the archive answers with a refusal that this crate does not know, the
+//! two are not of one version; the call then panics and names its entry and the number, and never takes it for an answer.
 //!
 //! # The archive
 //!

@@ -25,5 +25,6 @@ saidConstants c = (
   c .monotonic .0 ∷ c .gps .0 ∷ c .gst .0 ∷ c .bdt .0 ∷ c .tai1958 .0 ∷ c .tai1972 .0 ∷ [],
 )
 
+-- the three timestamps
 abbrev pub ends : List (ℤ × ℕ)
 ends = start ∷ earliest ∷ latest ∷ []

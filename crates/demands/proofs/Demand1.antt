@@ -30,7 +30,7 @@ use Rattle.demands.specs.Refused.{OnlyRefuses}
 use Rattle.demands.proofs.Answers.{time-one, date-time-answer-one, secs-one, unix-one, duration-one, ordering-one, read-one}
 use Rattle.demands.proofs.RefusalsOf.{new-only, from-date-only, from-unix-only, to-unix-only, over-epoch-only, added-only, taken-only, since-only, compared-only, read-only, displayed-only}
 use Rattle.demands.proofs.TextFirst.{text-refused, read-whole}
-use Rattle.demands.proofs.Lines.{refusal-leaves, bad-nanos, start-outside, no-room}
+use Rattle.demands.proofs.Lent.{refusal-leaves, bad-nanos, start-outside, no-room}
 
 -- ---- No two answers of an entry say the same, so no two meet its promise.
 -- of new, try_from_unix_timestamp, to_tai_time, checked_add and checked_sub

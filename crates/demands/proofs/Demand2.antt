@@ -25,7 +25,7 @@ use Rattle.printer.specs.Display.{instant, timeText, displayed}
 use Rattle.demands.specs.Values.{Divides, monthLengths, moment}
 use Rattle.demands.proofs.LeapRule.{leap-is}
 use Rattle.demands.proofs.WalkFacts.{walk-on, walk-back, next-day, next-month, next-year, common-lengths, leap-lengths, year-length, year-0-leap, day-60-of-year-0, seconds-of-year-0, seconds-cycle, time-of}
-use Rattle.demands.proofs.Lines.{printed}
+use Rattle.demands.proofs.Lent.{printed}
 
 -- ---- The walk
 -- The walk starts at 1970-01-01,

@@ -22,7 +22,7 @@ use Rattle.demands.proofs.DatesWalked.{accepted, refused, one-count}
 use Rattle.demands.proofs.ExactSums.{added-lies, taken-lies, since-lies}
 use Rattle.demands.proofs.Order.{earlier, compares, reads}
 use Rattle.demands.proofs.RoundTrip.{back, one-text}
-use Rattle.demands.proofs.Lines.{in-line}
+use Rattle.demands.proofs.Lent.{in-line}
 
 -- ---- (a) Dates. The statements hold for every year, so for those from -2147483648 to 2147483647.
 module _ (epoch year : ℤ) (month day hour min sec nano : ℕ) where

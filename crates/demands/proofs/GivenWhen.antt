@@ -3,27 +3,27 @@ use mathlib.Core.Path.{_≡_, refl, sym, ap, subst, _∙_}
 use mathlib.Core.Bool.{Bool, true, false, _&&_, and-eq-true-iff}
 use mathlib.Core.List.{List, [], _∷_}
 use mathlib.Core.Logic.{_⊎_, inl, inr, ⊎-elim, _↔_}
-use Prim.Native.Nat.{ℕ, _+_, _-_, _<_, _≤_}
+use Prim.Native.Nat.{ℕ, _+_, _-_, _/_, _%_, _<_, _≤_}
 use native.Mathlib.Omega.{arith}
 use lib.Dec.{leb, ltb}
 use lib.IntN.{ℤ, pos, negsuc, _+ℤ_, _-ℤ_}
 use lib.ListN.{length}
-use borrow.Author.Tests.{leb-true, leb-false, ltb-true, ltb-false}
+use borrow.Author.Tests.{leb-true, leb-false, ltb-true, ltb-false, lt-ltb}
 use Rattle.integers.specs.Integers.{isI64, floorDiv, floorMod}
 use Rattle.errors.specs.Refusals.{Refusal, refusal, Outcome, gives, refuses, refusesInRangeError, check}
 use Rattle.errors.proofs.Outcomes.{refuses-one, refuses-not}
 use Rattle.calendar.specs.Walk.{Valid, date, monthLength}
 use Rattle.moments.specs.Moments.{ValidTime, secondsOf}
-use Rattle.counts.specs.Counts.{representable, goodNanos, withNanos, newTime, dateTimeSecs, fromDateTime, toUnix, overEpoch, exact, timeAt, durationAt, added, taken, since, order, compared}
+use Rattle.counts.specs.Counts.{representable, goodNanos, withNanos, newTime, dateTimeSecs, fromDateTime, toUnix, fromUnix, overEpoch, exact, timeAt, durationAt, added, taken, since, order, compared}
 use Rattle.printed_parts.specs.declared.Precision.{Precision}
 use Rattle.printer.specs.Display.{timeText, displayed}
-use Rattle.demands.specs.Values.{moment}
+use Rattle.demands.specs.Values.{LeavesI64, moment}
 use Rattle.demands.specs.GivenWhen as When
 use Rattle.demands.specs.GivenWhen.{DateRefused, PrintRefused}
 use Rattle.demands.proofs.DatesOrder.{month-first, day-second, hour-third, minute-fourth, second-fifth, nanosecond-sixth}
 use Rattle.demands.proofs.DatesWalked.{refused}
 use Rattle.demands.proofs.NanosFirst.{first, either}
-use Rattle.demands.proofs.Lines.{bad-nanos, start-outside, no-room, printed}
+use Rattle.demands.proofs.Lent.{bad-nanos, start-outside, no-room, printed}
 
 -- a check that refused: its own test failed, or what comes then refused
 refused-by : {A : Type 0} {q : Refusal} (b : Bool) (r : Refusal) (o : Outcome A) → check b r o ≡ refuses q → ((b ≡ false) × (r ≡ q)) ⊎ ((b ≡ true) × (o ≡ refuses q))
@@ -153,6 +153,42 @@ module _ (secs : ℤ) (nanos : ℕ) where
   pub compared-11-exactly : (secs′ : ℤ) (nanos′ : ℕ) → (compared secs nanos secs′ nanos′ ≡ refuses (refusal 11 [])) ↔ ((1000000000 ≤ nanos) ⊎ (1000000000 ≤ nanos′))
   unfolding compared
   compared-11-exactly secs′ nanos′ = two nanos nanos′ (gives (order (exact secs nanos) (exact secs′ nanos′))) (λ e. refuses-not (sym e))
+
+-- ---- Conversions
+last-sum : {A : Type 0} (z : ℤ) (x : A) → (representable z (gives x) ≡ refuses (refusal 10 [])) ↔ LeavesI64 z
+last-sum z x = (λ e. ⊎-elim (λ p. p .0) (λ p. absurd (refuses-not (sym (p .1)))) (refused-by (isI64 z) (refusal 10 []) (gives x) e), λ n. rw n)
+
+sum-then : {A Then : Type 0} (z : ℤ) (o : Outcome A) → (o ≡ refuses (refusal 10 [])) ↔ Then → (representable z o ≡ refuses (refusal 10 [])) ↔ (LeavesI64 z ⊎ Then)
+sum-then z o h = (λ e. ⊎-elim (λ p. inl (p .0)) (λ p. inr (h .0 (p .1))) (refused-by (isI64 z) (refusal 10 []) o e), ⊎-elim (λ n. rw n) (λ t. again (isI64 z) (h .1 t)))
+  where
+    again : (b : Bool) → o ≡ refuses (refusal 10 []) → check b (refusal 10 []) o ≡ refuses (refusal 10 [])
+    again true e = e
+    again false e = refl
+
+good-then : {A Then : Type 0} (nanos : ℕ) (o : Outcome A) → (o ≡ refuses (refusal 10 [])) ↔ Then → (goodNanos nanos o ≡ refuses (refusal 10 [])) ↔ ((nanos < 1000000000) × Then)
+good-then nanos o h = (
+  λ e. ⊎-elim (λ p. absurd (omega (arith, ap (λ r. r .number) (p .1)))) (λ p. (ltb-true nanos 1000000000 (p .0), h .0 (p .1))) (refused-by (ltb nanos 1000000000) (refusal 11 []) o e),
+  λ (n, t). rw (lt-ltb nanos 1000000000 n) (h .1 t),
+)
+
+-- 10 is given exactly if a partial sum leaves i64: of Unix to timestamp the carry, then the leap seconds, then the epoch;
+pub from-unix-10-exactly : (epoch unix : ℤ) (nanos : ℕ) (leap : ℤ) → let carried = unix +ℤ pos (nanos / 1000000000) in
+    (fromUnix epoch unix nanos leap ≡ refuses (refusal 10 [])) ↔ (LeavesI64 carried ⊎ (LeavesI64 (carried +ℤ leap) ⊎ LeavesI64 (carried +ℤ leap -ℤ epoch)))
+unfolding fromUnix
+from-unix-10-exactly epoch unix nanos leap =
+    let carried = unix +ℤ pos (nanos / 1000000000) in
+    sum-then carried _ (sum-then (carried +ℤ leap) _ (last-sum (carried +ℤ leap -ℤ epoch) (carried +ℤ leap -ℤ epoch, nanos % 1000000000)))
+
+module _ (secs : ℤ) (nanos : ℕ) where
+  -- of timestamp to Unix the leap seconds, then the epoch, after 11;
+  pub to-unix-10-exactly : (epoch leap : ℤ) → (toUnix epoch secs nanos leap ≡ refuses (refusal 10 [])) ↔ ((nanos < 1000000000) × (LeavesI64 (secs -ℤ leap) ⊎ LeavesI64 (secs -ℤ leap +ℤ epoch)))
+  unfolding toUnix
+  to-unix-10-exactly epoch leap = good-then nanos _ (sum-then (secs -ℤ leap) _ (last-sum (secs -ℤ leap +ℤ epoch) (secs -ℤ leap +ℤ epoch)))
+
+  -- of a change of epoch old minus new, then the seconds, after 11.
+  pub over-epoch-10-exactly : (old new : ℤ) → (overEpoch old new secs nanos ≡ refuses (refusal 10 [])) ↔ ((nanos < 1000000000) × (LeavesI64 (old -ℤ new) ⊎ LeavesI64 (old -ℤ new +ℤ secs)))
+  unfolding overEpoch
+  over-epoch-10-exactly old new = good-then nanos _ (sum-then (old -ℤ new) _ (last-sum (old -ℤ new +ℤ secs) (old -ℤ new +ℤ secs, nanos)))
 
 -- ---- Printing
 module _ (secs : ℤ) (nanos : ℕ) (epoch : ℤ) (precision : Precision) (line : List ℕ) (at : ℕ) where

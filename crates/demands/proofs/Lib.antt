@@ -12,7 +12,7 @@ pub mod RefusalsOf
 pub mod NanosFirst
 pub mod DatesOrder
 pub mod TextFirst
-pub mod Lines
+pub mod Lent
 pub mod LeapRule
 pub mod WalkFacts
 pub mod DatesWalked

@@ -15,7 +15,7 @@ use Rattle.texts.specs.Texts.{bytes}
 use Rattle.demands.specs.Values.{I64, Timestamp}
 use Rattle.demands.specs.OurReadings.{longestText}
 use Rattle.demands.proofs.Integers.{fits}
-use Rattle.demands.proofs.Lines.{written}
+use Rattle.demands.proofs.Lent.{written}
 use Rattle.demands.proofs.Readings.{our-readings}
 
 -- No text of a timestamp over an i64 epoch has more, at any precision,

@@ -8,6 +8,6 @@ use Rattle.demands.proofs.ReadingsTest.{allPass, all-hold, all-pass}
 pub every-reading : AllHold readings
 every-reading = all-hold readings (and-yes (allPass readings) (allPass ours) all-pass .0)
 
--- So do ours: each named epoch starts as it should, and the earliest timestamp, the longest duration added, is the latest.
+-- So do ours: each named epoch starts as it should, and the latest timestamp and one of the longest texts are printed so.
 pub our-readings : AllHold ours
 our-readings = all-hold ours (and-yes (allPass readings) (allPass ours) all-pass .1)

@@ -1,4 +1,4 @@
--- Demand 1, in its order of checks: 7, 8 and 9 within a text, from its front on. What a stage refuses is the answer, whatever follows.
+-- Demand 1, in its order of checks: 7, 8 and 9 within a text, from its front on.
 use mathlib.Core.Path.{_≡_, ap, _∙_}
 use mathlib.Core.Bool.{true, false}
 use mathlib.Core.List.{List, []}
@@ -6,19 +6,33 @@ use Prim.Native.Nat.{ℕ, _<_, _≤_}
 use lib.IntN.{ℤ}
 use lib.ListN.{length}
 use borrow.Author.Tests.{ne-eqb, eq-eqb, le-leb, lt-leb, lt-ltb}
-use Rattle.errors.specs.Refusals.{refuses, refusal}
+use Rattle.errors.specs.Refusals.{refuses, refusal, ofParse}
+use Rattle.errors.specs.declared.ParseDateTimeError.{ParseDateTimeError}
 use Rattle.errors.specs.declared.ParseDateTimeError.the-variants.{MissingField, InvalidFieldWidth, InvalidFieldValue}
 use Rattle.decimals.specs.Numbers.{beginsWith, allDigits, number}
 use Rattle.decimals.specs.declared.Number.the-variants.{Value, Bad}
-use Rattle.fields.specs.Fields.{width, before, delimited, behind, twoDigits, fraction, seconds}
+use Rattle.fields.specs.Fields.{width, before, delimited, behind, twoDigits, nanoseconds, fraction, seconds}
 use Rattle.fields.specs.declared.Delimiter.{Delimiter}
-use Rattle.fields.specs.declared.Delimiter.the-variants.{Hyphen, Point}
+use Rattle.fields.specs.declared.Delimiter.the-variants.{Hyphen, SpaceOrT, Colon, Point}
+use Rattle.fields.specs.declared.Field.{Field}
+use Rattle.fields.specs.declared.Field.the-variants as Field
 use Rattle.fields.specs.declared.Seconds.the-variants as Seconds
-use Rattle.stages.specs.Text.{field, fromMonth, withSign, fromYear, withoutSign, parsed}
+use Rattle.stages.specs.Text.{onField, field, fromMonth, withSign, fromYear, withoutSign, parsed}
 use Rattle.stages.specs.declared.Parsed.{Parsed}
 use Rattle.stages.specs.declared.Parsed.the-variants.{Refused}
 use Rattle.reader.specs.Stamp.{readText}
 use Rattle.demands.proofs.TextFirst.{text-refused}
+
+-- a field that is refused with e, or has no delimiter behind it, which is 7
+abbrev Stops : Field → ParseDateTimeError → Type 0
+Stops (Field.Got v) e = ⊥
+Stops (Field.Last v) e = MissingField ≡ e
+Stops (Field.Refused r) e = r ≡ e
+
+stops : (f : Field) {e : ParseDateTimeError} (next : ℕ → Parsed) → Stops f e → onField f next ≡ Refused e
+stops (Field.Got v) next t = absurd t
+stops (Field.Last v) next t = ap Refused t
+stops (Field.Refused r) next t = ap Refused t
 
 module _ (limit : ℕ) (epoch : ℤ) (text : List ℕ) where
   -- No `-` behind the outer sign is 7, whatever stands there;
@@ -79,13 +93,57 @@ module _ (s : List ℕ) where
     unfolding seconds twoDigits
     bad-seconds-are-9 b = rw (eq-eqb (width Point s) 2 w, b)
 
-    module _ {v : ℕ} (n : number 99 (before Point s) ≡ Value v) (p : delimited Point s ≡ true) where
-      -- then nothing behind the point is 7,
-      pub no-fraction-is-7 : behind Point s ≡ [] → seconds s ≡ Seconds.Refused MissingField
-      unfolding seconds twoDigits fraction
-      no-fraction-is-7 e = rw (eq-eqb (width Point s) 2 w, n, p, e)
+    module _ {v : ℕ} (n : number 99 (before Point s) ≡ Value v) where
+      -- no point ends the text,
+      pub whole-seconds-end : delimited Point s ≡ false → seconds s ≡ Seconds.Got v 0
+      unfolding seconds twoDigits
+      whole-seconds-end p = rw (eq-eqb (width Point s) 2 w, n, p)
 
-      -- and there anything but digits is 9.
-      pub bad-fraction-is-9 : 0 < length (behind Point s) → allDigits (behind Point s) ≡ false → seconds s ≡ Seconds.Refused InvalidFieldValue
-      unfolding seconds twoDigits fraction
-      bad-fraction-is-9 l b = rw (eq-eqb (width Point s) 2 w, n, p, lt-ltb 0 (length (behind Point s)) l, b)
+      module _ (p : delimited Point s ≡ true) where
+        -- nothing behind one is 7,
+        pub no-fraction-is-7 : behind Point s ≡ [] → seconds s ≡ Seconds.Refused MissingField
+        unfolding seconds twoDigits fraction
+        no-fraction-is-7 e = rw (eq-eqb (width Point s) 2 w, n, p, e)
+
+        module _ (l : 0 < length (behind Point s)) where
+          -- there anything but digits is 9,
+          pub bad-fraction-is-9 : allDigits (behind Point s) ≡ false → seconds s ≡ Seconds.Refused InvalidFieldValue
+          unfolding seconds twoDigits fraction
+          bad-fraction-is-9 b = rw (eq-eqb (width Point s) 2 w, n, p, lt-ltb 0 (length (behind Point s)) l, b)
+
+          -- and digits are the fraction.
+          pub good-fraction-ends : allDigits (behind Point s) ≡ true → seconds s ≡ Seconds.Got v (nanoseconds (behind Point s))
+          unfolding seconds twoDigits fraction
+          good-fraction-ends b = rw (eq-eqb (width Point s) 2 w, n, p, lt-ltb 0 (length (behind Point s)) l, b)
+
+-- The first stage that refuses is the answer to the whole text, whatever follows: behind a good year
+module _ (limit : ℕ) (epoch : ℤ) (text : List ℕ) {size : ℕ} (d : delimited Hyphen (withoutSign text) ≡ true)
+    (h : 4 ≤ width Hyphen (withoutSign text)) (v : number limit (before Hyphen (withoutSign text)) ≡ Value size) where
+  pub the-rest-answers : {e : ParseDateTimeError} → fromMonth (withSign (beginsWith 45 text) size) (behind Hyphen (withoutSign text)) ≡ Refused e → readText limit epoch text ≡ ofParse e
+  the-rest-answers r = text-refused limit epoch text (good-year-goes-on limit epoch text d h v ∙ r)
+
+-- the month, the day, the hour, the minute and the seconds, each where those before it are good and have their delimiters.
+module _ (year : ℤ) (s : List ℕ) {e : ParseDateTimeError} where
+  pub month-answers : Stops (twoDigits Hyphen s) e → fromMonth year s ≡ Refused e
+  unfolding fromMonth field
+  month-answers t = stops (twoDigits Hyphen s) _ t
+
+  module _ {month : ℕ} (m : twoDigits Hyphen s ≡ Field.Got month) where
+    pub day-answers : Stops (twoDigits SpaceOrT (behind Hyphen s)) e → fromMonth year s ≡ Refused e
+    unfolding fromMonth field
+    day-answers t = rw m (stops (twoDigits SpaceOrT (behind Hyphen s)) _ t)
+
+    module _ {day : ℕ} (d : twoDigits SpaceOrT (behind Hyphen s) ≡ Field.Got day) where
+      pub hour-answers : Stops (twoDigits Colon (behind SpaceOrT (behind Hyphen s))) e → fromMonth year s ≡ Refused e
+      unfolding fromMonth field
+      hour-answers t = rw (m, d) (stops (twoDigits Colon (behind SpaceOrT (behind Hyphen s))) _ t)
+
+      module _ {hour : ℕ} (h : twoDigits Colon (behind SpaceOrT (behind Hyphen s)) ≡ Field.Got hour) where
+        pub minute-answers : Stops (twoDigits Colon (behind Colon (behind SpaceOrT (behind Hyphen s)))) e → fromMonth year s ≡ Refused e
+        unfolding fromMonth field
+        minute-answers t = rw (m, d, h) (stops (twoDigits Colon (behind Colon (behind SpaceOrT (behind Hyphen s)))) _ t)
+
+        pub seconds-answer : {min : ℕ} → twoDigits Colon (behind Colon (behind SpaceOrT (behind Hyphen s))) ≡ Field.Got min
+            → seconds (behind Colon (behind Colon (behind SpaceOrT (behind Hyphen s)))) ≡ Seconds.Refused e → fromMonth year s ≡ Refused e
+        unfolding fromMonth field
+        seconds-answer i t = rw (m, d, h, i, t)

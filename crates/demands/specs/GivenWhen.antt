@@ -11,6 +11,7 @@ use Rattle.printed_parts.specs.declared.Precision.{Precision}
 use Rattle.printer.specs.Display.{timeText}
 use Rattle.demands.specs.Values.{moment, Reaches}
 
+-- the refusals of calendar fields: the first field that is bad, in order, and 6 where all are good
 pub data DateRefused (epoch year : ℤ) (month day hour min sec nano : ℕ) : Refusal → Type 0 where
   bad-month : (month < 1) ⊎ (12 < month) → DateRefused epoch year month day hour min sec nano (refusal 0 (pos month ∷ []))
   bad-day : 1 ≤ month → month ≤ 12 → (day < 1) ⊎ (monthLength year month < day) → DateRefused epoch year month day hour min sec nano (refusal 1 (pos day ∷ []))
@@ -22,6 +23,7 @@ pub data DateRefused (epoch year : ℤ) (month day hour min sec nano : ℕ) : Re
   out-of-range : Valid (date year month day) → ValidTime (moment year month day hour min sec .time) → nano < 1000000000
       → ((secs : ℤ) → Reaches epoch secs (moment year month day hour min sec) → ⊥) → DateRefused epoch year month day hour min sec nano (refusal 6 [])
 
+-- the refusals of printing, in order
 pub data PrintRefused (secs : ℤ) (nanos : ℕ) (epoch : ℤ) (precision : Precision) (line : List ℕ) (at : ℕ) : Refusal → Type 0 where
   bad-nanos : 1000000000 ≤ nanos → PrintRefused secs nanos epoch precision line at (refusal 11 [])
   start-outside : nanos < 1000000000 → length line < at → PrintRefused secs nanos epoch precision line at (refusal 12 [])

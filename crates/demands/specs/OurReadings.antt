@@ -1,31 +1,23 @@
--- Readings of our own: one of the longest texts, and the constants (`counts/specs/Constants.antt`).
+-- Readings of our own: one of the longest texts, the latest timestamp, and where the named epochs start.
 use mathlib.Core.List.{List, [], _∷_}
 use Prim.Native.String.{String}
 use lib.IntN.{ℤ, pos}
-use Rattle.errors.specs.Refusals.{gives}
 use Rattle.counts.specs.Constants.{earliest, latest, namedEpochs}
-use Rattle.demands.specs.Readings.{Reading, prints, adds}
+use Rattle.demands.specs.Readings.{Reading, prints}
 
--- what the start of each epoch is printed as
+-- a row for each epoch: what its start is printed as (an epoch without a text would have the empty one, which nothing prints)
 abbrev pub starts : List ℤ → List String → List Reading
 starts [] texts = []
-starts (epoch ∷ epochs) [] = []
+starts (epoch ∷ epochs) [] = prints epoch (pos 0) 0 "" ∷ starts epochs []
 starts (epoch ∷ epochs) (text ∷ texts) = prints epoch (pos 0) 0 text ∷ starts epochs texts
-
-abbrev pub namedStarts : List Reading
-namedStarts =
-    starts namedEpochs
-    ("1970-01-01 00:00:00" ∷ "1980-01-06 00:00:19" ∷ "1999-08-22 00:00:19" ∷ "2006-01-01 00:00:33" ∷ "1958-01-01 00:00:00" ∷ "1972-01-01 00:00:00" ∷ [])
 
 -- a sign, twelve digits of a year and nine of a fraction
 abbrev pub longestText : String
 longestText = "-292277022657-01-27 08:29:52.999999999"
 
--- the longest text; the ends, with the longest duration between them; the starts
 abbrev pub ours : List Reading
 ours =
     prints (pos 0) (earliest .0) 999999999 longestText ∷
-    prints (pos 0) (earliest .0) (earliest .1) "-292277022657-01-27 08:29:52" ∷
     prints (pos 0) (latest .0) (latest .1) "292277026596-12-04 15:30:07.999999999" ∷
-    adds (earliest .0) (earliest .1) 18446744073709551615 999999999 (gives latest) ∷
-    namedStarts
+    starts namedEpochs
+    ("1970-01-01 00:00:00" ∷ "1980-01-06 00:00:19" ∷ "1999-08-22 00:00:19" ∷ "2006-01-01 00:00:33" ∷ "1958-01-01 00:00:00" ∷ "1972-01-01 00:00:00" ∷ [])

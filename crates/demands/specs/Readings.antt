@@ -6,6 +6,7 @@ use Prim.Native.String.{String}
 use lib.IntN.{ℤ, pos, negℤ}
 use Rattle.errors.specs.Refusals.{Outcome, gives, refuses, refusal}
 use Rattle.counts.specs.Counts.{fromDateTime, added}
+use Rattle.counts.specs.Constants.{earliest, latest}
 use Rattle.reader.specs.Stamp.{readText, yearLimit}
 use Rattle.printed_parts.specs.declared.Precision.the-variants.{Default}
 use Rattle.printer.specs.Lent.{answer, lineAfter}
@@ -38,12 +39,6 @@ AllHold (r ∷ rows) = Holds r × AllHold rows
 abbrev pub gps : ℤ
 gps = pos 315964819
 
-abbrev pub top : ℤ
-top = pos 9223372036854775807
-
-abbrev pub bottom : ℤ
-bottom = negℤ (pos 9223372036854775808)
-
 abbrev pub readings : List Reading
 readings =
     prints (pos 0) (pos 0) 0 "1970-01-01 00:00:00" ∷
@@ -54,9 +49,9 @@ readings =
     counts (pos 0) (pos 1900) 2 29 0 0 0 0 (refuses (refusal 1 (pos 29 ∷ []))) ∷
     counts (pos 0) (pos 9999) 12 31 23 59 59 0 (gives (pos 253402300799, 0)) ∷
     prints (pos 0) (negℤ (pos 1)) 500000000 "1969-12-31 23:59:59.5" ∷
-    prints (pos 0) top 0 "292277026596-12-04 15:30:07" ∷
-    prints (pos 0) bottom 0 "-292277022657-01-27 08:29:52" ∷
-    adds bottom 0 18446744073709551615 999999999 (gives (top, 999999999)) ∷
-    adds bottom 1 18446744073709551615 999999999 (refuses (refusal 10 [])) ∷
+    prints (pos 0) (latest .0) 0 "292277026596-12-04 15:30:07" ∷
+    prints (pos 0) (earliest .0) 0 "-292277022657-01-27 08:29:52" ∷
+    adds (earliest .0) (earliest .1) 18446744073709551615 999999999 (gives latest) ∷
+    adds (earliest .0) 1 18446744073709551615 999999999 (refuses (refusal 10 [])) ∷
     reads (pos 0) "2020-+5-01T00:00:00" (gives (pos 1588291200, 0)) ∷
     []

@@ -1,6 +1,6 @@
 -- The words of the demands: a timestamp, a duration, the moment of calendar fields, a count that reaches a moment by the walk.
 use mathlib.Core.Path.{_≡_}
-use mathlib.Core.Bool.{true}
+use mathlib.Core.Bool.{true, false}
 use mathlib.Core.List.{List, [], _∷_}
 use mathlib.Core.Logic.{_↔_}
 use Prim.Native.Nat.{ℕ, _^_, _<_}
@@ -18,6 +18,10 @@ use Rattle.counts.specs.Counts.{exact}
 -- a signed 64-bit number
 abbrev pub I64 : ℤ → Type 0
 I64 z = isI64 z ≡ true
+
+-- a number that is none
+abbrev pub LeavesI64 : ℤ → Type 0
+LeavesI64 z = isI64 z ≡ false
 
 -- y is a multiple of k
 abbrev pub Divides : ℕ → ℤ → Type 0

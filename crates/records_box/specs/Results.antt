@@ -16,6 +16,7 @@ use Rattle.records_box.specs.declared.OrderingResult.{OrderingResult}
 use Rattle.records_box.specs.declared.LengthResult.{LengthResult}
 use Rattle.records_box.specs.declared.MomentResult.{MomentResult}
 
+-- the refusal's number, or -1
 abbrev pub numberOr : {A : Type 0} → Outcome A → ℤ
 numberOr (gives x) = negsuc 0
 numberOr (refuses r) = pos (r .number)

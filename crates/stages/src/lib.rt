@@ -59,7 +59,14 @@ fn stop(f: Field) -> Parsed
     }
 }
 
-pub fn with_seconds(year: i64, month: u8, day: u8, hour: u8, min: u8, seconds: Seconds) -> Parsed
+pub(crate) fn with_seconds(
+    year: i64,
+    month: u8,
+    day: u8,
+    hour: u8,
+    min: u8,
+    seconds: Seconds,
+) -> Parsed
     ensures { λ r. ⌜ r ≡ onSeconds seconds (λ sec nano. Parsed.Fields (record { year = year; month = month; day = day; hour = hour; min = min; sec = sec; nano = nano })) ⌝ }
 {
     match seconds {

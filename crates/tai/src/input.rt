@@ -6,8 +6,8 @@ use streams::write;
 ghost use Prim.Native.Nat.{_≤_};
 ghost use lib.ListN.{length};
 
-// The first `end` bytes of the input are there and not answered yet; where a read fails, what of a line is there is not. A proved loop has to end, and nothing says that the
-// input does: no run uses up the count of turns.
+// The first `end` bytes of the input are there and not answered yet, and stay so where a read fails. A proved loop has to
+// end, and nothing says that the input does: no run uses up the count of turns.
 pub(crate) fn answer_input(input: &mut [u8], out: &mut [u8])
     requires { ⌜ (65536 ≤ length (now input)) × (65664 ≤ length (now out)) ⌝ }
 {

@@ -16,7 +16,7 @@ pub enum Signed {
 pub const TOP: u64 = 9223372036854775807;
 
 // A number of an unsigned type whose top is the limit.
-pub fn parse_unsigned(s: &[u8], limit: u64) -> Number
+pub(crate) fn parse_unsigned(s: &[u8], limit: u64) -> Number
     ensures { λ r. ⌜ r ≡ unsigned limit (now (s .entry)) ⌝ }
 {
     if begins_with(s, b'0') {
@@ -28,7 +28,7 @@ pub fn parse_unsigned(s: &[u8], limit: u64) -> Number
 }
 
 // A number of a signed type from -top - 1 to top.
-pub fn parse_signed(s: &[u8], top: u64) -> Signed
+pub(crate) fn parse_signed(s: &[u8], top: u64) -> Signed
     requires { ⌜ top < 2 ^ 63 ⌝ }
     ensures { λ r. ⌜ r ≡ signed top (now (s .entry)) ⌝ }
 {

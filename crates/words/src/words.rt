@@ -16,7 +16,7 @@ pub fn word_length(s: &[u8]) -> usize
 }
 
 // How many bytes the field in front has; 0 where no blank is in front.
-pub fn field_length(s: &[u8]) -> usize
+pub(crate) fn field_length(s: &[u8]) -> usize
     ensures { λ r. ⌜ r ≡ fieldLength (now (s .entry)) ⌝ }
     ensures { λ r. ⌜ r ≤ length (now (s .entry)) ⌝ }
 {
@@ -27,7 +27,7 @@ pub fn field_length(s: &[u8]) -> usize
 }
 
 // Its word.
-pub fn field_word(s: &[u8]) -> &[u8]
+pub(crate) fn field_word(s: &[u8]) -> &[u8]
     ensures { λ r. ⌜ now r ≡ fieldWord (now (s .entry)) ⌝ }
 {
     let n = field_length(s);
