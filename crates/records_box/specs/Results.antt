@@ -32,20 +32,21 @@ givenOr none (refusesInRangeError r) = none
 abbrev pub firstValue : Refusal → ℕ
 firstValue r = natAbs (getD (r .values) 0 (pos 0))
 
+-- the value of a refusal, 0 where there is none
 abbrev pub valueOf : {A : Type 0} → Outcome A → ℕ
 valueOf (gives x) = 0
 valueOf (refuses r) = firstValue r
 valueOf (refusesInRangeError r) = firstValue r
 
 -- 1 where a text's date was refused
-abbrev pub inRangeError : {A : Type 0} → Outcome A → ℤ
-inRangeError (gives x) = pos 0
-inRangeError (refuses r) = pos 0
-inRangeError (refusesInRangeError r) = pos 1
+abbrev pub rangeErrorFlag : {A : Type 0} → Outcome A → ℤ
+rangeErrorFlag (gives x) = pos 0
+rangeErrorFlag (refuses r) = pos 0
+rangeErrorFlag (refusesInRangeError r) = pos 1
 
 abbrev pub timeResult : Outcome (ℤ × ℕ) → TimeResult
 timeResult o =
-    record { refusal = numberOr o; «in_range_error» = inRangeError o; value = valueOf o; nanos = givenOr (pos 0, 0) o .1; secs = givenOr (pos 0, 0) o .0 }
+    record { refusal = numberOr o; «in_range_error» = rangeErrorFlag o; value = valueOf o; nanos = givenOr (pos 0, 0) o .1; secs = givenOr (pos 0, 0) o .0 }
 
 abbrev pub unixResult : Outcome ℤ → UnixResult
 unixResult o = record { refusal = numberOr o; secs = givenOr (pos 0) o }
