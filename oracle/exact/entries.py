@@ -7,6 +7,9 @@ I64 = (-(2**63), 2**63 - 1)
 U8, U32, U64 = (0, 2**8 - 1), (0, 2**32 - 1), (0, 2**64 - 1)
 SECOND = 10**9
 
+# Whether 01 is read as 02 amends it. The Rust answers by 01 as it was.
+AMENDED = True
+
 # The table of 01, "When the box says no"; the place of a name is its number.
 NAMES = (
     "InvalidMonth InvalidDayOfMonth InvalidHour InvalidMinute InvalidSecond InvalidNanosecond "
@@ -104,11 +107,12 @@ def compare(secs, nanos, other_secs, other_nanos):
     return ("earlier" if first < second else "later" if first > second else "same",)
 
 
-# 01, "How a stamp is read": bytes alone.
+# 01, "How a stamp is read", and 02, ask 3: bytes alone.
 
 
 def number_in(field):
-    digits = field[1:] if field[:1] == b"+" else field
+    # 02, ask 3: digits only; 01 as it was allows one `+` in front of them.
+    digits = field if AMENDED or field[:1] != b"+" else field[1:]
     if not digits or digits.strip(b"0123456789"):
         raise Refused(9)
     digits = digits.lstrip(b"0")

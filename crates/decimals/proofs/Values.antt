@@ -10,7 +10,7 @@ use lib.Dec.{leb, ltb}
 use lib.ListN.{length, drop, getD, drop-of-length-le}
 use lib.Seq.{drop-cons}
 use borrow.Author.Tests.{le-leb, lt-leb, lt-ltb, leb-true, not-false}
-use Rattle.decimals.specs.Numbers.{isDigit, allDigits, decimalAfter, decimal, digitsUpTo, number}
+use Rattle.decimals.specs.Numbers.{isDigit, allDigits, decimalAfter, decimal, number}
 use Rattle.decimals.specs.declared.Number.the-variants.{Value, Bad}
 
 -- what a loop knows of a byte that `is_digit` let pass
@@ -58,20 +58,20 @@ module _ (s : List ℕ) (i : ℕ) (inside : i < length s) where
 
 -- ---- the number
 module _ (limit : ℕ) (s : List ℕ) where
-  pub no-digit : length s ≡ 0 → Bad ≡ digitsUpTo limit s
-  unfolding digitsUpTo
+  pub no-digit : length s ≡ 0 → Bad ≡ number limit s
+  unfolding number
   no-digit h = rw h
 
-  pub bad-digit : allDigits s ≡ false → Bad ≡ digitsUpTo limit s
-  unfolding digitsUpTo
+  pub bad-digit : allDigits s ≡ false → Bad ≡ number limit s
+  unfolding number
   bad-digit e = rw (e, and-false)
 
-  pub too-large : limit < decimal s → Bad ≡ digitsUpTo limit s
-  unfolding digitsUpTo
+  pub too-large : limit < decimal s → Bad ≡ number limit s
+  unfolding number
   too-large h = rw (lt-leb (decimal s) limit h, and-false)
 
-  pub good-digits : 0 < length s → allDigits s ≡ true → decimal s ≤ limit → Value (decimal s) ≡ digitsUpTo limit s
-  unfolding digitsUpTo
+  pub good-digits : 0 < length s → allDigits s ≡ true → decimal s ≤ limit → Value (decimal s) ≡ number limit s
+  unfolding number
   good-digits h e k = rw (lt-ltb 0 (length s) h, e, le-leb (decimal s) limit k)
 
 -- a number is at most its limit
@@ -80,10 +80,16 @@ small limit d v true true e h = let k : v ≡ d = cc in rw k (leb-true d limit e
 small limit d v true false e h = let k : v ≡ limit = cc in omega arith
 small limit d v false b e h = let k : v ≡ limit = cc in omega arith
 
-pub digits-small : (limit : ℕ) (s : List ℕ) {v : ℕ} → digitsUpTo limit s ≡ Value v → v ≤ limit
-unfolding digitsUpTo
-digits-small limit s {v} h = small limit (decimal s) v (ltb 0 (length s) && allDigits s) (leb (decimal s) limit) refl h
-
 pub number-small : (limit : ℕ) (s : List ℕ) {v : ℕ} → number limit s ≡ Value v → v ≤ limit
 unfolding number
-number-small limit s h = digits-small limit _ h
+number-small limit s {v} h = small limit (decimal s) v (ltb 0 (length s) && allDigits s) (leb (decimal s) limit) refl h
+
+-- and has nothing but digits
+only : (a b c : Bool) (d : ℕ) {v : ℕ} → cond (a && b && c) (Value d) Bad ≡ Value v → b ≡ true
+only a true c d h = refl
+only true false c d h = cc
+only false false c d h = cc
+
+pub number-all-digits : (limit : ℕ) (s : List ℕ) {v : ℕ} → number limit s ≡ Value v → allDigits s ≡ true
+unfolding number
+number-all-digits limit s h = only (ltb 0 (length s)) (allDigits s) (leb (decimal s) limit) (decimal s) h

@@ -3,7 +3,7 @@ use mathlib.Core.Bool.{Bool, true, false, cond, _&&_}
 use mathlib.Core.List.{List, [], _∷_}
 use Prim.Native.Nat.{ℕ, _+_, _-_, _*_}
 use lib.Dec.{ltb, leb, eqb}
-use lib.ListN.{length, drop, getD}
+use lib.ListN.{length, getD}
 use Rattle.decimals.specs.declared.Number.{Number}
 use Rattle.decimals.specs.declared.Number.the-variants.{Value, Bad}
 
@@ -34,13 +34,9 @@ decimalAfter n (x ∷ s) = decimalAfter (n * 10 + (x - 48)) s
 abbrev pub decimal : List ℕ → ℕ
 decimal s = decimalAfter 0 s
 
--- digits only, at least one, of a value up to the limit
-unfoldable pub digitsUpTo : ℕ → List ℕ → Number
-digitsUpTo limit s = cond (ltb 0 (length s) && allDigits s && leb (decimal s) limit) (Value (decimal s)) Bad
-
--- the same, with one `+` (43) allowed in front: what every field is read by
+-- digits only, at least one, of a value up to the limit: the number in a field of a text, and in a word of a request
 unfoldable pub number : ℕ → List ℕ → Number
-number limit s = digitsUpTo limit (cond (beginsWith 43 s) (drop 1 s) s)
+number limit s = cond (ltb 0 (length s) && allDigits s && leb (decimal s) limit) (Value (decimal s)) Bad
 
 -- what is made of a number's value, and of none
 abbrev pub onNumber : {A : Type 0} → Number → A → (ℕ → A) → A

@@ -3,7 +3,7 @@ ghost use mathlib.Core.Path.{_≡_};
 ghost use mathlib.Core.Bool.{true};
 ghost use Prim.Native.Nat.{_+_, _≤_};
 ghost use lib.ListN.{length, drop, getD};
-ghost use Rattle.decimals.specs.Numbers.{beginsWith, isDigit, pairAt, digitsUpTo, number};
+ghost use Rattle.decimals.specs.Numbers.{beginsWith, isDigit, pairAt, number};
 
 pub fn begins_with(s: &[u8], byte: u8) -> bool
     ensures { λ r. ⌜ r ≡ beginsWith byte (now (s .entry)) ⌝ }
@@ -40,8 +40,8 @@ pub fn pair(s: &[u8], at: usize) -> u8
 }
 
 // Too large and ill formed are the same refusal, so that the first digit too many ends it: n never passes the limit.
-pub fn digits(s: &[u8], limit: u64) -> Number
-    ensures { λ r. ⌜ r ≡ digitsUpTo limit (now (s .entry)) ⌝ }
+pub fn parse_number(s: &[u8], limit: u64) -> Number
+    ensures { λ r. ⌜ r ≡ number limit (now (s .entry)) ⌝ }
 {
     if s.len() == 0 {
         return Number::Bad;
@@ -65,14 +65,4 @@ pub fn digits(s: &[u8], limit: u64) -> Number
         i += 1;
     }
     Number::Value(n)
-}
-
-// The inner `+` is Rust's own integer parsing.
-pub fn parse_number(s: &[u8], limit: u64) -> Number
-    ensures { λ r. ⌜ r ≡ number limit (now (s .entry)) ⌝ }
-{
-    if begins_with(s, b'+') {
-        return digits(skip(s, 1), limit);
-    }
-    digits(s, limit)
 }

@@ -8,7 +8,7 @@ use native.Mathlib.Omega.{arith}
 use lib.Dec.{leb}
 use lib.ListN.{length}
 use borrow.Author.Tests.{le-leb, lt-ltb, ne-eqb, leb-true}
-use Rattle.decimals.specs.Numbers.{beginsWith, isDigit, allDigits, decimalAfter, decimal, digitsUpTo, number}
+use Rattle.decimals.specs.Numbers.{beginsWith, isDigit, allDigits, decimalAfter, decimal, number}
 use Rattle.decimals.specs.declared.Number.the-variants.{Value}
 use Rattle.digits.specs.Digits.{digits}
 use Rattle.digits.proofs.Decimal.{digits-length}
@@ -54,17 +54,12 @@ unfolding beginsWith allDigits
 begins-not b [] r l h e = absurd (omega arith)
 begins-not b (x ∷ a) r l h e = ne-eqb x b (λ q. omega (arith, digit-low x (and-eq-true-iff (isDigit x) (allDigits a) .0 e .0)))
 
-begins-bare : (b : ℕ) (a : List ℕ) → b < 48 → 0 < length a → allDigits a ≡ true → beginsWith b a ≡ false
-unfolding beginsWith allDigits
-begins-bare b [] l h e = absurd (omega arith)
-begins-bare b (x ∷ a) l h e = ne-eqb x b (λ q. omega (arith, digit-low x (and-eq-true-iff (isDigit x) (allDigits a) .0 e .0)))
-
 -- THE NUMBER READS BACK
 pub number-digits : (limit w n : ℕ) → 0 < w → n < 10 ^ w → n ≤ limit → number limit (digits w n) ≡ Value n
-unfolding number digitsUpTo
+unfolding number
 number-digits limit w n l h k =
     let s = digits w n in
     let p : 0 < length s = omega (arith, digits-length w n) in
     let d = all-digits w n in
     let v = decimal-digits w n h in
-    rw (begins-bare 43 s (omega arith) p d, lt-ltb 0 (length s) p, d, v, le-leb n limit k)
+    rw (lt-ltb 0 (length s) p, d, v, le-leb n limit k)

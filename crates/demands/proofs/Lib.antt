@@ -5,6 +5,7 @@ pub mod Readings
 pub mod LongestText
 pub mod GivenWhen
 pub mod TextOrder
+pub mod DigitsOnly
 pub mod Passed
 pub mod Integers
 pub mod Answers

@@ -13,7 +13,7 @@ use Rattle.calendar.specs.Walk.{divides, isLeap, monthRow, monthLength}
 use Rattle.calendar.specs.Closed.{leapYears, yearStart, sumTo, dayOfYear, dayNumber}
 use Rattle.moments.specs.Moments.{secondOfDay, secondsOf}
 use Rattle.counts.specs.Counts.{dateTimeSecs, fromDateTime, exact, timeAt, added}
-use Rattle.decimals.specs.Numbers.{beginsWith, isDigit, allDigits, decimalAfter, digitsUpTo, number}
+use Rattle.decimals.specs.Numbers.{beginsWith, isDigit, allDigits, decimalAfter, number}
 use Rattle.fields.specs.Fields as Fields
 use Rattle.stages.specs.Text as Text
 use Rattle.reader.specs.Stamp.{readText, yearLimit}
@@ -148,5 +148,5 @@ all-hold (r ∷ rows) t = let b = and-yes (passes r) (allPass rows) t in (holds 
 
 -- EVERY ROW PASSES, as the prover computes it: those of document 01, and our own
 pub all-pass : T (allPass readings && allPass ours)
-unfolding isI64 floorDiv floorMod divides isLeap monthRow monthLength leapYears yearStart sumTo dayOfYear dayNumber secondOfDay secondsOf dateTimeSecs fromDateTime exact timeAt added beginsWith isDigit allDigits decimalAfter digitsUpTo number Fields.isDelimiter Fields.width Fields.twoDigits Fields.nanoseconds Fields.fraction Fields.seconds Text.field Text.fromMonth Text.fromYear Text.withoutSign Text.parsed readText Digits.digits Digits.widthFrom Digits.width Parts.yearText Parts.trim Parts.fractionText Printed.fieldsText Printed.text
+unfolding isI64 floorDiv floorMod divides isLeap monthRow monthLength leapYears yearStart sumTo dayOfYear dayNumber secondOfDay secondsOf dateTimeSecs fromDateTime exact timeAt added beginsWith isDigit allDigits decimalAfter number Fields.isDelimiter Fields.width Fields.twoDigits Fields.nanoseconds Fields.fraction Fields.seconds Text.field Text.fromMonth Text.fromYear Text.withoutSign Text.parsed readText Digits.digits Digits.widthFrom Digits.width Parts.yearText Parts.trim Parts.fractionText Printed.fieldsText Printed.text
 all-pass = tt

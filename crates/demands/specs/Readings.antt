@@ -1,4 +1,4 @@
--- Document 01, "Readings we keep by the bench": the rows marked P, as one table with a case for each kind of call.
+-- Document 01, "Readings we keep by the bench", as document 02 amends it: the rows marked P, as one table with a case for each kind of call.
 use mathlib.Core.Path.{_≡_}
 use mathlib.Core.List.{List, [], _∷_}
 use Prim.Native.Nat.{ℕ}
@@ -53,5 +53,6 @@ readings =
     prints (pos 0) (earliest .0) 0 "-292277022657-01-27 08:29:52" ∷
     adds (earliest .0) (earliest .1) 18446744073709551615 999999999 (gives latest) ∷
     adds (earliest .0) 1 18446744073709551615 999999999 (refuses (refusal 10 [])) ∷
-    reads (pos 0) "2020-+5-01T00:00:00" (gives (pos 1588291200, 0)) ∷
+    reads (pos 0) "2020-+5-01T00:00:00" (refuses (refusal 9 [])) ∷
+    reads (pos 0) "++2020-01-01 00:00:00" (refuses (refusal 9 [])) ∷
     []

@@ -1,8 +1,8 @@
--- The words of the demands: a timestamp, a duration, the moment of calendar fields, a count that reaches a moment by the walk.
+-- The words of the demands: a timestamp, a duration, the moment of calendar fields, a count that reaches a moment by the walk, a byte of a text.
 use mathlib.Core.Path.{_≡_}
 use mathlib.Core.Bool.{true, false}
 use mathlib.Core.List.{List, [], _∷_}
-use mathlib.Core.Logic.{_↔_}
+use mathlib.Core.Logic.{_↔_, _⊎_}
 use Prim.Native.Nat.{ℕ, _^_, _<_}
 use lib.IntN.{ℤ, pos, _+ℤ_, _*ℤ_}
 use lib.Signed.{_<ℤ_}
@@ -11,6 +11,9 @@ use Rattle.errors.specs.Refusals.{Outcome, gives, refuses, refusal}
 use Rattle.moments.specs.declared.Moment.{Moment}
 use Rattle.calendar.specs.Walk.{date, monthLength}
 use Rattle.moments.specs.Moments.{momentAt, EarlierMoment}
+use Rattle.decimals.specs.Numbers.{isDigit}
+use Rattle.fields.specs.Fields.{isDelimiter}
+use Rattle.fields.specs.declared.Delimiter.{Delimiter}
 use Rattle.durations.specs.declared.Ordering.{Ordering}
 use Rattle.durations.specs.declared.Ordering.the-variants.{Less, Equal, Greater}
 use Rattle.counts.specs.Counts.{exact}
@@ -78,3 +81,7 @@ pub record TimeLiesAt (z : ℤ) (o : Outcome (ℤ × ℕ)) : Type 0 where
 pub record DurationLiesAt (z : ℤ) (o : Outcome (ℕ × ℕ)) : Type 0 where
   pub value : (secs nanos : ℕ) → (o ≡ gives (secs, nanos)) ↔ (Duration secs nanos × (exact (pos secs) nanos ≡ z))
   pub none : (o ≡ refuses (refusal 10 [])) ↔ ((secs nanos : ℕ) → Duration secs nanos → exact (pos secs) nanos ≡ z → ⊥)
+
+-- a byte is a digit, or a delimiter of one kind
+abbrev pub DigitOrDelimiter : ℕ → Type 0
+DigitOrDelimiter x = (isDigit x ≡ true) ⊎ ((d : Delimiter) × (isDelimiter d x ≡ true))

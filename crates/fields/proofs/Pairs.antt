@@ -1,21 +1,22 @@
 -- Two digits at the front of a text: the byte behind them decides the field.
 use mathlib.Core.Path.{_≡_, refl}
-use mathlib.Core.Bool.{Bool, true, false, cond}
+use mathlib.Core.Bool.{Bool, true, false, cond, _&&_, and-false}
 use mathlib.Core.List.{List, [], _∷_}
-use Prim.Native.Nat.{ℕ, suc, _+_, _-_, _*_, _<_}
+use mathlib.Core.Logic.{_⊎_, inl, inr}
+use Prim.Native.Nat.{ℕ, suc, _+_, _-_, _*_, _<_, _≤_}
 use native.Mathlib.Nat.{zero-add}
 use native.Mathlib.Omega.{arith}
 use lib.Dec.{eqb}
 use lib.ListN.{length, getD}
 use borrow.Author.Tests.{ne-eqb, le-leb, lt-ltb}
-use Rattle.errors.specs.declared.ParseDateTimeError.the-variants.{InvalidFieldWidth}
-use Rattle.decimals.specs.Numbers.{beginsWith, allDigits, pairAt, decimalAfter, digitsUpTo, number}
+use Rattle.errors.specs.declared.ParseDateTimeError.the-variants.{InvalidFieldWidth, InvalidFieldValue}
+use Rattle.decimals.specs.Numbers.{isDigit, allDigits, pairAt, decimalAfter, number}
 use Rattle.fields.specs.Fields.{isDelimiter, width, twoDigits}
 use Rattle.decimals.specs.declared.Number.the-variants.{Value}
 use Rattle.fields.specs.declared.Delimiter.{Delimiter}
 use Rattle.fields.specs.declared.Delimiter.the-variants.{Hyphen, SpaceOrT, Colon, Point}
 use Rattle.fields.specs.declared.Field.the-variants.{Got, Last, Refused}
-use Rattle.decimals.proofs.Values.{Digit}
+use Rattle.decimals.proofs.Values.{Digit, bad-digit}
 
 -- no digit is a delimiter
 pub other : (d : Delimiter) {x : ℕ} → Digit x → isDelimiter d x ≡ false
@@ -26,11 +27,15 @@ other Colon {x} h = ne-eqb x 58 (λ e. omega (arith, h .high))
 other Point {x} h = ne-eqb x 46 (λ e. omega (arith, h .low))
 
 two : (x y : ℕ) → Digit x → Digit y → number 99 (x ∷ y ∷ []) ≡ Value ((x - 48) * 10 + (y - 48))
-unfolding number beginsWith digitsUpTo allDigits decimalAfter
+unfolding number allDigits decimalAfter
 two x y h k =
-    let n = ne-eqb x 43 (λ g. omega (arith, h .low)) in
     let v = le-leb ((x - 48) * 10 + (y - 48)) 99 (omega (arith, h .high, k .high)) in
-    simp (n, h .is, k .is, v, zero-add)
+    simp (h .is, k .is, v, zero-add)
+
+not-two : (x y : ℕ) → (isDigit x ≡ false) ⊎ (isDigit y ≡ false) → allDigits (x ∷ y ∷ []) ≡ false
+unfolding allDigits
+not-two x y (inl e) = rw e
+not-two x y (inr e) = rw (e, and-false)
 
 one : (b : Bool) → eqb (cond b 0 1) 2 ≡ false
 one true = refl
@@ -63,3 +68,9 @@ module _ (d : Delimiter) where
   pair-wide (x ∷ []) l h k e = absurd (omega arith)
   pair-wide (x ∷ y ∷ []) l h k e = absurd (omega arith)
   pair-wide (x ∷ y ∷ z ∷ s) l h k e = simp (other d h, other d k, e, ne-eqb (suc (suc (suc (width d s)))) 2 (λ g. omega arith))
+
+  pub pair-bad : (s : List ℕ) → 2 ≤ length s → width d s ≡ 2 → (isDigit (getD s 0 0) ≡ false) ⊎ (isDigit (getD s 1 0) ≡ false) → Refused InvalidFieldValue ≡ twoDigits d s
+  unfolding twoDigits
+  pair-bad [] l w e = absurd (omega arith)
+  pair-bad (x ∷ []) l w e = absurd (omega arith)
+  pair-bad (x ∷ y ∷ s) l w e = rw (w, ← bad-digit 99 (x ∷ y ∷ []) (not-two x y e))

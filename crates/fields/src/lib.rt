@@ -1,5 +1,4 @@
 // The fields of a text: what stands before a delimiter.
-use decimals::Number;
 use errors::ParseDateTimeError;
 ghost use mathlib.Core.Path.{_≡_};
 ghost use Prim.Native.Nat.{_≤_};
@@ -52,25 +51,7 @@ pub fn find(s: &[u8], delimiter: Delimiter) -> usize
     i
 }
 
-// The field by search, for what does not begin with two digits: of two bytes it is a number only by the inner `+`.
-fn pull_two_bytes(s: &[u8], delimiter: Delimiter) -> Field
-    ensures { λ r. ⌜ r ≡ twoDigits delimiter (now (s .entry)) ⌝ }
-{
-    let n = find(s, delimiter);
-    if n != 2 {
-        return Field::Refused(ParseDateTimeError::InvalidFieldWidth);
-    }
-    let Number::Value(v) = decimals::parse_number(&s[..n], 99) else {
-        return Field::Refused(ParseDateTimeError::InvalidFieldValue);
-    };
-    let value = v as u8;
-    if n < s.len() {
-        return Field::Got(value);
-    }
-    Field::Last(value)
-}
-
-// Two digits are no delimiter, so that the byte behind them tells the width, and nothing has to be searched.
+// Two digits are no delimiter, so that the byte behind them tells the width; of anything else the width is searched, and it is refused.
 pub fn pull_two_digits(s: &[u8], delimiter: Delimiter) -> Field
     ensures { λ r. ⌜ r ≡ twoDigits delimiter (now (s .entry)) ⌝ }
 {
@@ -87,7 +68,10 @@ pub fn pull_two_digits(s: &[u8], delimiter: Delimiter) -> Field
         }
         return Field::Refused(ParseDateTimeError::InvalidFieldWidth);
     }
-    pull_two_bytes(s, delimiter)
+    if find(s, delimiter) != 2 {
+        return Field::Refused(ParseDateTimeError::InvalidFieldWidth);
+    }
+    Field::Refused(ParseDateTimeError::InvalidFieldValue)
 }
 
 // Nine places, of which those behind the last digit are 0; every digit is validated, those past nine too.

@@ -1,4 +1,4 @@
-// The readings of document 01 that are run, and the constants: a line for each, held to 01's answer in the file stdout.
+// The readings of document 01 that are run, as document 02 amends them, and the constants: a line for each, held to the documents' answer in the file stdout.
 use answers::put_refusal;
 use counts::DateTimeAnswer;
 use counts::Duration;
@@ -91,6 +91,7 @@ fn constants() {
 fn main() {
     unix(0, 4294967295, 0);
     unix(9223372036854775807, 1000000000, -1);
+    read(b"2020-+5-01T00:00:00");
     read(b"++2020-01-01 00:00:00");
     read(b"");
     read(b"2020-1");

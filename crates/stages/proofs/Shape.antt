@@ -13,7 +13,7 @@ use lib.ListN.{length, drop, getD, length-drop, List·getD-eq-default}
 use lib.Seq.{drop-cons, drop-drop, getD-drop}
 use borrow.Author.Tests.{ne-eqb, le-leb, lt-ltb}
 use Rattle.calendar.proofs.Table.{below}
-use Rattle.decimals.specs.Numbers.{beginsWith, isDigit, allDigits, pairAt, decimalAfter, digitsUpTo, number}
+use Rattle.decimals.specs.Numbers.{beginsWith, isDigit, allDigits, pairAt, decimalAfter, number}
 use Rattle.fields.specs.Fields.{isDelimiter, width, twoDigits, fraction, seconds}
 use Rattle.fields.specs.declared.Delimiter.{Delimiter}
 use Rattle.fields.specs.declared.Delimiter.the-variants.{Hyphen, SpaceOrT, Colon, Point}
@@ -67,7 +67,7 @@ fits-at (b ∷ shape) (x ∷ s) (suc k) e h = fits-at shape s k (and-eq-true-iff
 -- ---- the year
 year : (limit a b c d e : ℕ) (s : List ℕ) → Digit a → Digit b → Digit c → Digit d → isDelimiter Hyphen e ≡ true → 9999 ≤ limit
     → parsed limit (a ∷ b ∷ c ∷ d ∷ e ∷ s) ≡ fromMonth (pos (((a - 48) * 10 + (b - 48)) * 100 + ((c - 48) * 10 + (d - 48)))) s
-unfolding parsed withoutSign fromYear beginsWith number digitsUpTo allDigits decimalAfter width
+unfolding parsed withoutSign fromYear beginsWith number allDigits decimalAfter width
 year limit a b c d e s ha hb hc hd he l =
     let plus = ne-eqb a 43 (λ q. omega (arith, ha .low)) in
     let minus = ne-eqb a 45 (λ q. omega (arith, ha .low)) in

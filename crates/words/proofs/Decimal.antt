@@ -9,10 +9,10 @@ use lib.Dec.{ltb}
 use lib.IntN.{negsuc}
 use lib.ListN.{length}
 use borrow.Author.Tests.{lt-ltb}
-use Rattle.decimals.specs.Numbers.{beginsWith, digitsUpTo}
+use Rattle.decimals.specs.Numbers.{beginsWith, number}
 use Rattle.decimals.specs.declared.Number.{Number}
 use Rattle.decimals.specs.declared.Number.the-variants.{Value, Bad}
-use Rattle.decimals.proofs.Values.{digits-small}
+use Rattle.decimals.proofs.Values.{number-small}
 use Rattle.words.specs.Numbers.{unsigned, below}
 use Rattle.words.specs.declared.numbers.Signed.the-variants as Signed
 
@@ -22,7 +22,7 @@ unfolding unsigned
 needless limit s e h = rw (e, lt-ltb 1 (length s) h)
 
 -- none
-pub as-read : (limit : ℕ) (s : List ℕ) → (beginsWith 48 s && ltb 1 (length s)) ≡ false → digitsUpTo limit s ≡ unsigned limit s
+pub as-read : (limit : ℕ) (s : List ℕ) → (beginsWith 48 s && ltb 1 (length s)) ≡ false → number limit s ≡ unsigned limit s
 unfolding unsigned
 as-read limit s h = rw h
 
@@ -33,7 +33,7 @@ not-bad false x h = h
 -- a number is at most its limit
 pub unsigned-small : (limit : ℕ) (s : List ℕ) {v : ℕ} → unsigned limit s ≡ Value v → v ≤ limit
 unfolding unsigned
-unsigned-small limit s h = digits-small limit s (not-bad (beginsWith 48 s && ltb 1 (length s)) (digitsUpTo limit s) h)
+unsigned-small limit s h = number-small limit s (not-bad (beginsWith 48 s && ltb 1 (length s)) (number limit s) h)
 
 pub below-value : (n : ℕ) → 0 < n → below (Value n) ≡ Signed.Value (negsuc (n - 1))
 below-value zero h = absurd (omega arith)

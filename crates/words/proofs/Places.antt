@@ -6,7 +6,7 @@ use Prim.Native.Nat.{ℕ, zero, suc, _+_, _<_}
 use native.Mathlib.Numerals.{unary-clauses}
 use native.Mathlib.Omega.{arith}
 use lib.ListN.{length, drop, getD}
-use Rattle.decimals.specs.Numbers.{beginsWith, digitsUpTo}
+use Rattle.decimals.specs.Numbers.{beginsWith, number}
 use Rattle.decimals.specs.declared.Number.{Number}
 use Rattle.decimals.specs.declared.Number.the-variants as Number
 use Rattle.printed_parts.specs.declared.Precision.the-variants.{Digits}
@@ -65,7 +65,7 @@ rest-next zero s = refl
 rest-next (suc i) s = simp unary-clauses (simp unary-clauses at (rest-next i (drop (fieldLength s) s)))
 
 of-kind : (kind : Kind) (s : List ℕ) → (good (getD (letters (kind ▸ end)) 0 0) s ≡ meaningful (meaning kind (fieldWord s))) × (meaning kind [] ≡ nothing)
-unfolding good alike epochOf signed unsigned beginsWith digitsUpTo isHex
+unfolding good alike epochOf signed unsigned beginsWith number isHex
 of-kind epoch s = (refl, refl)
 of-kind i64 s = (refl, refl)
 of-kind i32 s = (refl, refl)

@@ -5,7 +5,7 @@ use Prim.Native.Nat.{ℕ, zero, suc, _+_}
 use lib.Dec.{ltb}
 use lib.IntN.{pos, negsuc}
 use lib.ListN.{length, drop}
-use Rattle.decimals.specs.Numbers.{beginsWith, digitsUpTo}
+use Rattle.decimals.specs.Numbers.{beginsWith, number}
 use Rattle.decimals.specs.declared.Number.{Number}
 use Rattle.decimals.specs.declared.Number.the-variants as Number
 use Rattle.words.specs.declared.numbers.Signed.{Signed}
@@ -13,7 +13,7 @@ use Rattle.words.specs.declared.numbers.Signed.the-variants.{Value, Bad}
 
 -- a number of an unsigned type: digits, at least one, of a value up to the limit, and no needless zero (`0` is 48)
 unfoldable pub unsigned : ℕ → List ℕ → Number
-unsigned limit s = cond (beginsWith 48 s && ltb 1 (length s)) Number.Bad (digitsUpTo limit s)
+unsigned limit s = cond (beginsWith 48 s && ltb 1 (length s)) Number.Bad (number limit s)
 
 -- a number as it is
 abbrev pub above : Number → Signed

@@ -1,7 +1,7 @@
 // Decimal numbers: digits alone, no needless zero, `-` where the type is signed, within the type.
 use decimals::Number;
 use decimals::begins_with;
-use decimals::digits;
+use decimals::parse_number;
 use decimals::skip;
 ghost use mathlib.Core.Path.{_≡_};
 ghost use Prim.Native.Nat.{_^_, _<_};
@@ -24,7 +24,7 @@ pub(crate) fn parse_unsigned(s: &[u8], limit: u64) -> Number
             return Number::Bad;
         }
     }
-    digits(s, limit)
+    parse_number(s, limit)
 }
 
 // A number of a signed type from -top - 1 to top.

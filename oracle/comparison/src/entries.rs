@@ -1,10 +1,10 @@
 //! One case of each entry but the printer: both sides are asked and held against each other.
 
-use oracle::{DateTime, Duration, Timestamp};
+use oracle::{Answer, DateTime, Duration, Refusal, Timestamp};
 use port::{Epoch, LeapOffset, TimeResult, UnixSeconds};
 
 use crate::encode;
-use crate::tally::{Entry, Tally};
+use crate::tally::{Entry, Split, Tally};
 
 /// The nanoseconds that the Rust lets in among fields as one too many.
 pub const FULL_SECOND: u32 = 1_000_000_000;
@@ -33,7 +33,7 @@ pub fn try_from_date_time(tally: &mut Tally, epoch: i64, date: DateTime) {
         rust = encode::time(oracle::try_from_date_time(epoch, DateTime { nano, ..date }));
         if rust.refusal == 5 {
             rust.value = FULL_SECOND;
-            tally.listed_splits += 1;
+            tally.add_split(Split::FullSecond);
         }
     } else {
         rust = encode::time(oracle::try_from_date_time(epoch, date));
@@ -102,9 +102,19 @@ pub fn cmp(tally: &mut Tally, first: Timestamp, second: Timestamp) {
     });
 }
 
+/// Where reading reaches a `+` inside a field, the port is held against 02: refused (9).
 pub fn from_str(tally: &mut Tally, epoch: i64, text: &str) {
     let (rust, port) = read(epoch, text);
-    tally.hold(Entry::FromStr, rust, port, || shown(epoch, text));
+    let mut wanted = rust;
+    if oracle::reaches_inner_plus(text.as_bytes()) {
+        wanted = encode::time(Answer::Refused(Refusal::InvalidFieldValue));
+        if rust.refusal == -1 {
+            tally.add_split(Split::PlusAccepted);
+        } else if rust != wanted {
+            tally.add_split(Split::PlusRefused);
+        }
+    }
+    tally.hold(Entry::FromStr, wanted, port, || shown(epoch, text));
 }
 
 /// The default text of a timestamp, read again: the timestamp, if the year is within the limit.
@@ -112,7 +122,7 @@ pub fn read_back(tally: &mut Tally, epoch: i64, stamp: Timestamp, text: &str) {
     let (rust, port) = read(epoch, text);
     let limit = i64::from(i32::MAX);
     let wanted = if (-limit..=limit).contains(&encode::moment(text).year) {
-        encode::time(oracle::Answer::Value(stamp))
+        encode::time(Answer::Value(stamp))
     } else {
         rust
     };

@@ -22,7 +22,7 @@ use std::time::Instant;
 use oracle::{EPOCHS, Random};
 use random_numbers::Bases;
 use random_texts::Texts;
-use tally::{NAMES, Tally};
+use tally::{NAMES, SPLITS, Tally};
 
 const DEFAULT_COUNT: u64 = 2_000_000;
 const DEFAULT_SEED: u64 = 1970;
@@ -131,10 +131,9 @@ fn report(tally: &Tally) {
     }
     let (cases, differences) = (tally.all_cases(), tally.all_differences());
     println!("{:24} {cases:>13} {differences:>12}", "all");
-    println!(
-        "listed split: {} cases with nano 1000000000 among fields, refused (5) as 01 has it",
-        tally.listed_splits
-    );
+    for (split, cases) in SPLITS.iter().zip(tally.splits) {
+        println!("listed split: {cases} cases of {split}");
+    }
     for difference in &tally.first {
         println!("{difference}");
     }

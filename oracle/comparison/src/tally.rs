@@ -39,6 +39,21 @@ pub const NAMES: [&str; 14] = [
     "secs_to_date_time",
 ];
 
+/// Where the documents decide against the Rust.
+#[derive(Clone, Copy)]
+pub enum Split {
+    FullSecond,
+    PlusAccepted,
+    PlusRefused,
+}
+
+/// What is said of each [`Split`], in its order.
+pub const SPLITS: [&str; 3] = [
+    "nano 1000000000 among fields, refused (5)",
+    "a + inside a field, accepted by the Rust, refused (9)",
+    "a + inside a field, refused by the Rust with another number, refused (9)",
+];
+
 /// How many differences are shown with their inputs.
 const SHOWN: usize = 10;
 
@@ -46,35 +61,40 @@ const SHOWN: usize = 10;
 pub struct Tally {
     pub cases: [u64; NAMES.len()],
     pub differences: [u64; NAMES.len()],
-    /// Cases with nano 1,000,000,000 where the Rust and 01 part.
-    pub listed_splits: u64,
+    /// Cases in which the port is held against the documents, since the Rust says something else.
+    pub splits: [u64; SPLITS.len()],
     /// The first differences, each with its input.
     pub first: Vec<String>,
 }
 
 impl Tally {
-    /// Counts a case, and a difference if the two sides are not equal.
+    /// Counts a case in which the documents decide against the Rust.
+    pub fn add_split(&mut self, split: Split) {
+        self.splits[split as usize] += 1;
+    }
+
+    /// Counts a case, and a difference if the port does not give what is wanted.
     #[inline]
     pub fn hold<T: PartialEq + Debug>(
         &mut self,
         entry: Entry,
-        rust: T,
+        wanted: T,
         port: T,
         request: impl FnOnce() -> String,
     ) {
         self.cases[entry as usize] += 1;
-        if rust != port {
-            self.add_difference(entry, format!("{rust:?}"), format!("{port:?}"), request());
+        if wanted != port {
+            self.add_difference(entry, format!("{wanted:?}"), format!("{port:?}"), request());
         }
     }
 
     #[cold]
-    pub fn add_difference(&mut self, entry: Entry, rust: String, port: String, request: String) {
+    pub fn add_difference(&mut self, entry: Entry, wanted: String, port: String, request: String) {
         self.differences[entry as usize] += 1;
         if self.first.len() < SHOWN {
             let name = NAMES[entry as usize];
             self.first.push(format!(
-                "{name}: {request}\n    the Rust: {rust}\n    the port: {port}"
+                "{name}: {request}\n    wanted:   {wanted}\n    the port: {port}"
             ));
         }
     }
@@ -87,7 +107,9 @@ impl Tally {
         for (sum, more) in self.differences.iter_mut().zip(other.differences) {
             *sum += more;
         }
-        self.listed_splits += other.listed_splits;
+        for (sum, more) in self.splits.iter_mut().zip(other.splits) {
+            *sum += more;
+        }
         let room = SHOWN - self.first.len();
         self.first.extend(other.first.into_iter().take(room));
     }

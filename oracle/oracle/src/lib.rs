@@ -2,8 +2,10 @@
 //!
 //! Each entry that 01 takes from the crate is one function here. It picks the Rust type of the
 //! epoch at run time, calls the Rust, and gives the outcome in the numbers and values of 01. Where
-//! the Rust has no answer it says [`Answer::Outside`]; nothing is imitated.
+//! the Rust has no answer it says [`Answer::Outside`]; nothing is imitated. Where document 02 decides
+//! against the Rust, [`reaches_inner_plus`] tells.
 
+mod amendments;
 mod answers;
 pub mod desk;
 mod entries;
@@ -11,6 +13,7 @@ mod epochs;
 mod random;
 pub mod readings;
 
+pub use amendments::reaches_inner_plus;
 pub use answers::{Answer, DateRefusal, DateTime, Duration, Refusal, Timestamp};
 pub use entries::{
     LARGEST_PRECISION, as_unix_secs, checked_add, checked_duration_since, checked_sub, compare,

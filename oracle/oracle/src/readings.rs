@@ -1,6 +1,6 @@
-//! The readings of 01 (section "Readings we keep by the bench") as requests, with 01's answers.
+//! The readings of 01 (section "Readings we keep by the bench") as requests, with the documents' answers.
 
-/// Each request with the answer that 01 states for it, in the order of 01.
+/// Each request with the answer that 01 states for it, as 02 amends it, in the order of 01.
 pub const READINGS: &[(&str, &str)] = &[
     ("print 0 0 0 -", "ok 1970-01-01 00:00:00"),
     ("print gps 0 0 -", "ok 1980-01-06 00:00:19"),
@@ -39,9 +39,11 @@ pub const READINGS: &[(&str, &str)] = &[
         "unix 0 9223372036854775807 1000000000 -1",
         "refused 10 NotRepresentable",
     ),
-    ("read 0 2020-+5-01T00:00:00", "ok 1588291200 0"),
-    // 01 says "accepted"; the value is that of 2020-01-01.
-    ("read 0 ++2020-01-01 00:00:00", "ok 1577836800 0"),
+    ("read 0 2020-+5-01T00:00:00", "refused 9 InvalidFieldValue"),
+    (
+        "read 0 ++2020-01-01 00:00:00",
+        "refused 9 InvalidFieldValue",
+    ),
     ("read 0 ", "refused 7 MissingField"),
     ("read-hex 0 -", "refused 7 MissingField"),
     ("read 0 2020-1", "refused 8 InvalidFieldWidth"),
@@ -76,4 +78,11 @@ pub const READINGS: &[(&str, &str)] = &[
     ("print 0 0 123450000 2", "ok 1970-01-01 00:00:00.12"),
     ("print 0 0 123450000 20", "ok 1970-01-01 00:00:00.123450000"),
     ("print 0 0 0 3", "ok 1970-01-01 00:00:00.000"),
+];
+
+/// What 01 stated before 02 amended it, and the Rust answers still.
+pub const BEFORE_02: &[(&str, &str)] = &[
+    ("read 0 2020-+5-01T00:00:00", "ok 1588291200 0"),
+    // 01 says "accepted"; the value is that of 2020-01-01.
+    ("read 0 ++2020-01-01 00:00:00", "ok 1577836800 0"),
 ];

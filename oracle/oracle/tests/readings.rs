@@ -1,8 +1,9 @@
 //! The readings of 01 are run on the Rust and held against what 01 states.
 
 use oracle::desk::answer;
-use oracle::readings::READINGS;
+use oracle::readings::{BEFORE_02, READINGS};
 
+/// Those that 02 amends are the only ones on which the Rust differs, and it answers them as 01 did.
 #[test]
 fn the_rust_gives_each_reading_of_01() {
     let mut differences = Vec::new();
@@ -10,10 +11,14 @@ fn the_rust_gives_each_reading_of_01() {
         let mut given = String::new();
         answer(request.as_bytes(), &mut given);
         if given != stated {
-            differences.push(format!("{request}: 01 {stated}, the Rust {given}"));
+            differences.push((request, given));
         }
     }
-    assert!(differences.is_empty(), "{}", differences.join("\n"));
+    let before: Vec<_> = BEFORE_02
+        .iter()
+        .map(|&(asked, of_01)| (asked, of_01.to_owned()))
+        .collect();
+    assert_eq!(differences, before);
 }
 
 /// The one difference that 01 itself lists (section "Slips a blender would make too").

@@ -1,10 +1,15 @@
--- `fields::pull_two_digits`: the byte behind two digits decides.
-use mathlib.Core.Path.{sym, _∙_}
+-- `fields::pull_two_digits`: the byte behind two digits decides; of anything else the width does.
+use mathlib.Core.Path.{_≡_, sym, _∙_}
+use mathlib.Core.Logic.{inl, inr, ⊎-elim}
 use native.Mathlib.Omega.{arith}
 use lib.ListN.{getD}
 use borrow.Author.Needs.{needs}
+use borrow.Author.Tests.{ne-eqb}
+use Rattle.errors.specs.declared.ParseDateTimeError.the-variants.{InvalidFieldValue}
+use Rattle.fields.specs.Fields.{twoDigits}
+use Rattle.fields.specs.declared.Field.the-variants.{Refused}
 use Rattle.decimals.proofs.Values.{Digit, is-digit}
-use Rattle.fields.proofs.Pairs.{pair-short, pair-last, pair-got, pair-wide}
+use Rattle.fields.proofs.Pairs.{pair-short, pair-last, pair-got, pair-wide, pair-bad}
 use Rattle.fields.proofs.pull_two_digits.Statement.{statement}
 use Rattle.fields.proofs.pull_two_digits.Tie as tie
 
@@ -13,6 +18,11 @@ first k = is-digit (sym (k .before .before .before .before .is-digit .ensures) �
 
 second : (k : tie.Then3) → Digit (getD (k .before .before .before .before .before .before .before .before .args .s .now) 1 0)
 second k = is-digit (sym (k .before .is-digit2 .ensures) ∙ k .if3 .taken)
+
+neither : (k : tie.Else6) → let a = k .before .before .before .before .before .before .before .args in Refused InvalidFieldValue ≡ twoDigits (a .delimiter) (a .s .now)
+neither k =
+    pair-bad _ _ (omega arith) (sym (k .before .find .ensures .0) ∙ omega arith)
+    (⊎-elim (λ w. inr (sym (w .2 .ensures) ∙ w .3 .left)) (λ w. inl (sym (k .before .before .before .is-digit .ensures) ∙ w .left)) (k .before .before .if2 .came))
 
 returns : tie.Need-returns
 returns c = pair-short _ _ (c .if1 .taken)
@@ -47,11 +57,15 @@ returns-3 c = rw (c .before .before .before .before .pair .ensures) (pair-got _ 
 returns-4 : tie.Need-returns-4
 returns-4 c = pair-wide _ _ (omega arith) (first (search)) (second (search)) (sym (c .before .is-delimiter .ensures) ∙ c .if5 .left)
 
-pull-two-bytes-requires : tie.Need-pull-two-bytes-requires
-pull-two-bytes-requires c κs = search needs
+find-requires : tie.Need-find-requires
+find-requires c κs = search needs
 
 returns-5 : tie.Need-returns-5
-returns-5 c = search needs
+unfolding twoDigits
+returns-5 c = rw (← c .before .find .ensures .0, ne-eqb (c .before .find .result) 2 (λ w. omega arith))
+
+returns-6 : tie.Need-returns-6
+returns-6 c = neither (search)
 
 pub pull-two-digits-spec : {M : Type 1} → statement M
 pull-two-digits-spec =
@@ -68,5 +82,6 @@ pull-two-digits-spec =
     is-delimiter-requires
     returns-3
     returns-4
-    pull-two-bytes-requires
-    returns-5)
+    find-requires
+    returns-5
+    returns-6)

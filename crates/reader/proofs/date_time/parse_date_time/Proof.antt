@@ -2,7 +2,7 @@
 use mathlib.Core.Path.{_≡_, sym, ap, _∙_}
 use Prim.Native.Nat.{_+_}
 use native.Mathlib.Omega.{arith}
-use lib.ListN.{drop}
+use lib.ListN.{take, drop}
 use lib.Seq.{length-take-le}
 use mir.Syntax.{w64}
 use mir.Facts.{toZ-ofZ}
@@ -10,18 +10,21 @@ use borrow.Author.Tests.{lt-ltb, le-ltb, le-leb, lt-leb}
 use borrow.Author.Needs.{needs}
 use Rattle.integers.proofs.Machine.{known64}
 use Rattle.errors.specs.declared.ParseDateTimeError.the-variants.{InvalidFieldValue}
-use Rattle.decimals.specs.Numbers.{onNumber}
+use Rattle.decimals.specs.Numbers.{number, onNumber}
+use Rattle.decimals.specs.declared.Number.{Number}
 use Rattle.decimals.proofs.Values.{number-small}
 use Rattle.stages.specs.Text.{parsed, fromYear, fromMonth, withSign}
 use Rattle.stages.specs.declared.Parsed.the-variants.{Refused}
 use Rattle.reader.proofs.date_time.parse_date_time.Statement.{statement}
 use Rattle.reader.proofs.date_time.parse_date_time.Tie as tie
 
-year-wide : (k : tie.After-parse-number) → let a = k .before .before .before .before .before .before .before .before .before .args in
-    parsed (a .limit) (a .text .now)
-    ≡ onNumber (k .parse-number .result) (Refused InvalidFieldValue) λ size. fromMonth (withSign (k .before .before .before .before .before .before .begins-with .result) size) (drop (k .before .before .before .before .find .result + 1) (k .before .before .before .before .before .skip-sign .result .now))
+year-wide : {read : Number} (k : tie.Else4) → let a = k .before .before .before .before .before .before .before .args in
+    let rest = k .before .before .before .skip-sign .result .now in
+    let n = k .before .before .find .result in
+    read ≡ number (a .limit) (take n rest)
+    → parsed (a .limit) (a .text .now) ≡ onNumber read (Refused InvalidFieldValue) λ size. fromMonth (withSign (k .before .before .before .before .begins-with .result) size) (drop (n + 1) rest)
 unfolding parsed fromYear
-year-wide k = rw (← k .before .before .before .before .before .skip-sign .ensures, ← k .before .before .before .before .find .ensures .0, lt-ltb _ _ (k .before .before .before .if3 .left), le-leb 4 _ (k .before .before .if4 .left), ← k .parse-number .ensures, ← k .before .before .before .before .before .before .begins-with .ensures)
+year-wide k e = rw (← k .before .before .before .skip-sign .ensures, ← k .before .before .find .ensures .0, lt-ltb _ _ (k .before .if3 .left), le-leb 4 _ (k .if4 .left), e, ← k .before .before .before .before .begins-with .ensures)
 
 is-usual-requires : tie.Need-is-usual-requires
 is-usual-requires c κs = search needs
@@ -62,7 +65,7 @@ enum-told : tie.Need-enum-told
 enum-told c = search needs
 
 returns-4 : tie.Need-returns-4
-returns-4 c = rw (year-wide (search), c .enum-told .given .1)
+returns-4 c = rw (year-wide (search) (c .before .before .parse-number .ensures), c .enum-told .given .1)
 
 with-sign-requires : tie.Need-with-sign-requires
 with-sign-requires c κs = let v = number-small _ _ (sym (c .before .before .before .parse-number .ensures) ∙ c .before .size .given .1) in omega arith
@@ -79,7 +82,7 @@ parse-from-month-requires c κs = search needs
 returns-5 : tie.Need-returns-5
 returns-5 c =
     let y = c .before .before .with-sign in
-    rw (year-wide (search), c .before .before .before .before .size .given .1, ← y .ensures, ← c .before .skip .ensures)
+    rw (year-wide (search) (c .before .before .before .before .before .before .parse-number .ensures), c .before .before .before .before .size .given .1, ← y .ensures, ← c .before .skip .ensures)
     (c .parse-from-month .ensures ∙ ap (λ z. fromMonth z (c .before .skip .result .now)) (toZ-ofZ {w = w64} (known64 (y .result) (y .ok) .self)))
 
 pub parse-date-time-spec : {M : Type 1} → statement M

@@ -27,5 +27,6 @@ fn main() -> io::Result<()> {
     prints::add_all(&mut list);
     texts::add_all(&mut list);
     damage::add_all(&mut list);
+    texts::add_inner_plus(&mut list);
     io::stdout().lock().write_all(list.text().as_bytes())
 }

@@ -154,6 +154,36 @@ fn add_two_faults(list: &mut List) {
     }
 }
 
+/// A `+` inside a field (02, ask 3), alone and before a fault of a later field, of the fraction or of the date.
+pub fn add_inner_plus(list: &mut List) {
+    let last = FIELDS.len() - 1;
+    for (first, plus) in [
+        (0, "+020"),
+        (0, "+2020"),
+        (1, "+5"),
+        (2, "+5"),
+        (3, "+5"),
+        (4, "+5"),
+    ] {
+        for second in first + 1..FIELDS.len() {
+            for fault in ["1", "xx", "99", "+5"] {
+                let replaced = [(first, plus), (second, fault)];
+                list.add_text_once(&stamp(&replaced, last));
+                list.add_text_once(&stamp(&replaced, second));
+            }
+        }
+    }
+    for place in 1..FIELDS.len() {
+        let text = stamp(&[(place, "+1")], last);
+        for fraction in [".", ".x", ".5"] {
+            list.add_text_once(&format!("{text}{fraction}"));
+        }
+        for epoch in EPOCHS {
+            list.add_text(epoch, &text);
+        }
+    }
+}
+
 /// Fractions of 0 to 12 digits, and rubbish behind and between them.
 fn add_fractions(list: &mut List) {
     let start = "2020-01-02 03:04:05";
