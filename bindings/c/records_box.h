@@ -115,8 +115,8 @@ tai_duration_result tai_checked_duration_since(int64_t secs, uint32_t nanos, int
 /* The first count against the second. Refuses 11, of either. */
 tai_ordering_result tai_cmp(int64_t secs, uint32_t nanos, int64_t other_secs, uint32_t other_nanos);
 
-/* Reads a text, any bytes: [+-]YYYY-MM-DD hh:mm:ss[.d...], the year of four digits or more, the blank also T or t.
- * Refuses 7 to 9 while reading; then the date, 0 to 6, in_range_error 1. text may not be
+/* Reads a text, any bytes: [+-]YYYY-MM-DD hh:mm:ss[.d...], the year of four digits or more, the blank also T or t; a
+ * field is digits only. Refuses 7 to 9 while reading; then the date, 0 to 6, in_range_error 1. text may not be
  * null, also where text_len is 0. */
 tai_time_result tai_from_str(tai_epoch epoch, const uint8_t *text, size_t text_len);
 

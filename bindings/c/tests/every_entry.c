@@ -115,6 +115,8 @@ static void reading(void) {
     HOLD(refuses(read(zero, ""), TAI_MISSING_FIELD, 0));
     HOLD(refuses(read(zero, "2020-1"), TAI_INVALID_FIELD_WIDTH, 0));
     HOLD(refuses(read(zero, "2147483648-01-01 00:00:00"), TAI_INVALID_FIELD_VALUE, 0));
+    HOLD(refuses(read(zero, "2020-+5-01T00:00:00"), TAI_INVALID_FIELD_VALUE, 0));
+    HOLD(refuses(read(zero, "++2020-01-01 00:00:00"), TAI_INVALID_FIELD_VALUE, 0));
     HOLD(refuses_its_date(read(zero, "2020-13-01 00:00:00"), TAI_INVALID_MONTH, 13));
     HOLD(refuses_its_date(read(zero, "1900-02-29 00:00:00"), TAI_INVALID_DAY_OF_MONTH, 29));
     HOLD(refuses_its_date(read(zero, "2020-01-01 24:00:00"), TAI_INVALID_HOUR, 24));

@@ -240,7 +240,15 @@ impl<const EPOCH_REF: i64> fmt::Display for TaiTime<EPOCH_REF> {
     }
 }
 
-/// `[±][Y]...[Y]YYYY-MM-DD hh:mm:ss[.d[d]...[d]]`, with a `T` or `t` for the blank as well.
+/// `[±][Y]...[Y]YYYY-MM-DD hh:mm:ss[.d[d]...[d]]`, with a `T` or `t` for the blank as well. A field is digits only, where
+/// tai-time lets one begin with a `+`:
+///
+/// ```
+/// use admezgast::{MonotonicTime, ParseDateTimeError};
+///
+/// let may = "2020-+5-01 00:00:00".parse::<MonotonicTime>();
+/// assert_eq!(may, Err(ParseDateTimeError::InvalidFieldValue));
+/// ```
 impl<const EPOCH_REF: i64> FromStr for TaiTime<EPOCH_REF> {
     type Err = ParseDateTimeError;
 

@@ -71,7 +71,27 @@ fn counts_of_dates() {
 fn counts_of_texts() {
     let read = str::parse::<MonotonicTime>;
     assert_eq!(read("9999-12-31 23:59:59"), Ok(at(253_402_300_799, 0)));
-    assert_eq!(read("2020-+5-01T00:00:00"), Ok(at(1_588_291_200, 0)));
+    assert_eq!(read("+2020-05-01T00:00:00"), Ok(at(1_588_291_200, 0)));
+    for inner_plus in [
+        "2020-+5-01T00:00:00",
+        "++2020-01-01 00:00:00",
+        "-+020-01-01 00:00:00",
+        "2020-01-+1 00:00:00",
+        "2020-01-01 +0:00:00",
+        "2020-01-01 00:+0:00",
+        "2020-01-01 00:00:+0",
+        "2020-01-01 00:00:+0.5",
+        "2020-01-01 00:00:00.+5",
+        "2020-+5-1", // 8 in tai-time, which goes on to the day
+    ] {
+        let refused = Err(ParseDateTimeError::InvalidFieldValue);
+        assert_eq!(read(inner_plus), refused, "{inner_plus}");
+    }
+    let three_bytes = "2020-+05-01 00:00:00";
+    assert_eq!(
+        read(three_bytes),
+        Err(ParseDateTimeError::InvalidFieldWidth)
+    );
     assert_eq!(read(""), Err(ParseDateTimeError::MissingField));
     assert_eq!(read("2020-1"), Err(ParseDateTimeError::InvalidFieldWidth));
     let too_late = "2147483648-01-01 00:00:00";
