@@ -44,7 +44,7 @@ typedef enum {
     TAI_OUT_OF_RANGE = 6,         /* the date's seconds minus the epoch leave int64_t */
     TAI_MISSING_FIELD = 7,        /* a delimiter is absent, or nothing follows the point */
     TAI_INVALID_FIELD_WIDTH = 8,
-    TAI_INVALID_FIELD_VALUE = 9,  /* not a number, or too large */
+    TAI_INVALID_FIELD_VALUE = 9,  /* anything but digits, or too large */
     TAI_NOT_REPRESENTABLE = 10,   /* the result is none of its type */
     TAI_BAD_NANOS = 11,           /* a given count or duration has 10^9 nanoseconds or more */
     TAI_START_OUTSIDE = 12,       /* at is beyond the line's length */
@@ -116,13 +116,14 @@ tai_duration_result tai_checked_duration_since(int64_t secs, uint32_t nanos, int
 tai_ordering_result tai_cmp(int64_t secs, uint32_t nanos, int64_t other_secs, uint32_t other_nanos);
 
 /* Reads a text, any bytes: [+-]YYYY-MM-DD hh:mm:ss[.d...], the year of four digits or more, the blank also T or t; a
- * field is digits only. Refuses 7 to 9 while reading; then the date, 0 to 6, in_range_error 1. text may not be
- * null, also where text_len is 0. */
+ * field is digits only. Refuses 7 to 9 while reading; then the date, 0 to 6, in_range_error 1. text may not be null,
+ * also where text_len is 0. */
 tai_time_result tai_from_str(tai_epoch epoch, const uint8_t *text, size_t text_len);
 
-/* Writes the text of a count, [-]YYYY-MM-DD hh:mm:ss[.d...], into the line from the place at, and tells its length. given 0: no precision, all digits
- * but trailing zeros; else digits of the fraction, at most nine, cut. Refuses 11, 12, 13, in this order, and then leaves
- * the line; else no byte before at or behind the text is touched. line may not be null, also where line_len is 0. */
+/* Writes the text of a count, [-]YYYY-MM-DD hh:mm:ss[.d...], into the line from the place at, and tells its length.
+ * given 0: no precision, all digits but trailing zeros; else digits of the fraction, at most nine, cut. Refuses 11, 12,
+ * 13, in this order, and then leaves the line; else no byte before at or behind the text is touched. line may not be
+ * null, also where line_len is 0. */
 tai_length_result tai_display(tai_epoch epoch, int64_t secs, uint32_t nanos, int32_t given, size_t digits,
                               uint8_t *line, size_t line_len, size_t at);
 

@@ -191,7 +191,8 @@ impl Count {
         )
     }
 
-    /// Reads a text, any bytes, over an epoch.
+    /// Reads a text, any bytes, over an epoch. Its form is that of
+    /// [`TaiTime`](crate::TaiTime#impl-FromStr-for-TaiTime%3CEPOCH_REF%3E).
     ///
     /// # Errors
     ///

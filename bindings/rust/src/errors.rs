@@ -31,7 +31,7 @@ pub enum DateTimeError {
 /// A text that is refused (7 to 9), or whose date is.
 #[derive(Clone, Copy, Debug, PartialEq, Eq)]
 pub enum ParseDateTimeError {
-    /// A field has its width and anything but digits in it, or is too large.
+    /// Anything but digits in a field of the right width or behind the point, or a year that is too large.
     InvalidFieldValue,
     /// A field has the wrong width.
     InvalidFieldWidth,

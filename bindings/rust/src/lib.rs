@@ -10,7 +10,8 @@
 //! [`BdtTime`], [`Tai1958Time`] and [`Tai1972Time`], and tai-time's methods, arguments, results, errors and texts. A
 //! program changes its `use` lines, or none with `tai-time = { package = "admezgast", path = … }` in its manifest.
 //! Left out are clocks, system time, the features, operators and the forms that panic; and only reading the parts and the
-//! constants is `const`. A text with a `+` inside a field, as `2020-+5-01 00:00:00`, is refused.
+//! constants is `const`. Refused, where tai-time is lenient, are 10^9 nanoseconds among calendar fields and a `+` inside a
+//! field of a text, as [`ParseDateTimeError::InvalidFieldValue`] for `2020-+5-01 00:00:00`.
 //!
 //! A quad may leave if its gas was analysed after the last fill:
 //!

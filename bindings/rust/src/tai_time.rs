@@ -128,7 +128,8 @@ impl<const EPOCH_REF: i64> TaiTime<EPOCH_REF> {
             .map(Self::from_count)
     }
 
-    /// Reads a text, any bytes; of a `str`, [`parse`](str::parse) does.
+    /// Reads a text, any bytes; of a `str`, [`parse`](str::parse) does. Its form stands
+    /// [there](Self#impl-FromStr-for-TaiTime%3CEPOCH_REF%3E).
     ///
     /// # Errors
     ///
@@ -241,7 +242,7 @@ impl<const EPOCH_REF: i64> fmt::Display for TaiTime<EPOCH_REF> {
 }
 
 /// `[±][Y]...[Y]YYYY-MM-DD hh:mm:ss[.d[d]...[d]]`, with a `T` or `t` for the blank as well. A field is digits only, where
-/// tai-time lets one begin with a `+`:
+/// tai-time lets one begin with a `+` (and goes on: it may refuse such a text for something later):
 ///
 /// ```
 /// use admezgast::{MonotonicTime, ParseDateTimeError};

@@ -85,11 +85,11 @@ unfolding number
 number-small limit s {v} h = small limit (decimal s) v (ltb 0 (length s) && allDigits s) (leb (decimal s) limit) refl h
 
 -- and has nothing but digits
-only : (a b c : Bool) (d : ℕ) {v : ℕ} → cond (a && b && c) (Value d) Bad ≡ Value v → b ≡ true
-only a true c d h = refl
-only true false c d h = cc
-only false false c d h = cc
+middle-holds : (a b c : Bool) (d : ℕ) {v : ℕ} → cond (a && b && c) (Value d) Bad ≡ Value v → b ≡ true
+middle-holds a true c d h = refl
+middle-holds true false c d h = cc
+middle-holds false false c d h = cc
 
 pub number-all-digits : (limit : ℕ) (s : List ℕ) {v : ℕ} → number limit s ≡ Value v → allDigits s ≡ true
 unfolding number
-number-all-digits limit s h = only (ltb 0 (length s)) (allDigits s) (leb (decimal s) limit) (decimal s) h
+number-all-digits limit s h = middle-holds (ltb 0 (length s)) (allDigits s) (leb (decimal s) limit) (decimal s) h

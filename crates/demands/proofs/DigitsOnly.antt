@@ -1,6 +1,6 @@
 -- Document 02, ask 3: a field is digits only, and behind the first byte of an accepted text there is no `+` (43).
 use mathlib.Core.Path.{_≡_, refl, sym, ap, subst, _∙_}
-use mathlib.Core.Bool.{Bool, true, false, cond, _&&_, _||_, and-eq-true-iff}
+use mathlib.Core.Bool.{Bool, true, false, cond, _||_, and-eq-true-iff}
 use mathlib.Core.List.{List, [], _∷_}
 use mathlib.Core.Logic.{inl, inr, ⊎-elim}
 use Prim.Native.Nat.{ℕ, zero, suc, _+_, _-_, _<_, _≤_}
@@ -39,11 +39,11 @@ pub year-not-of-digits-is-9 : (limit : ℕ) (epoch : ℤ) (text : List ℕ) → 
     → allDigits (Fields.before Hyphen (withoutSign text)) ≡ false → readText limit epoch text ≡ refuses (refusal 9 [])
 year-not-of-digits-is-9 limit epoch text d h e = bad-year-is-9 limit epoch text d h (sym (bad-digit limit _ e))
 
--- in the month, the day, the hour and the minute,
+-- at the stage of the month, the day, the hour and the minute,
 pub field-not-of-digits-is-9 : (d : Delimiter) (s : List ℕ) (next : ℕ → List ℕ → Parsed) → width d s ≡ 2 → allDigits (Fields.before d s) ≡ false → field d s next ≡ Parsed.Refused InvalidFieldValue
 field-not-of-digits-is-9 d s next w e = bad-field-is-9 d s next w (sym (bad-digit 99 _ e))
 
--- and in the second.
+-- and at that of the second; `TextOrder` has that the first stage which refuses is the answer.
 pub seconds-not-of-digits-are-9 : (s : List ℕ) → width Point s ≡ 2 → allDigits (Fields.before Point s) ≡ false → seconds s ≡ Seconds.Refused InvalidFieldValue
 seconds-not-of-digits-are-9 s w e = bad-seconds-are-9 s w (sym (bad-digit 99 _ e))
 

@@ -51,7 +51,7 @@ pub fn find(s: &[u8], delimiter: Delimiter) -> usize
     i
 }
 
-// Two digits are no delimiter, so that the byte behind them tells the width; of anything else the width is searched, and it is refused.
+// Two digits are no delimiter, so that the byte behind them tells the width; anything else is refused, by its width.
 pub fn pull_two_digits(s: &[u8], delimiter: Delimiter) -> Field
     ensures { λ r. ⌜ r ≡ twoDigits delimiter (now (s .entry)) ⌝ }
 {
@@ -68,10 +68,11 @@ pub fn pull_two_digits(s: &[u8], delimiter: Delimiter) -> Field
         }
         return Field::Refused(ParseDateTimeError::InvalidFieldWidth);
     }
-    if find(s, delimiter) != 2 {
-        return Field::Refused(ParseDateTimeError::InvalidFieldWidth);
-    }
-    Field::Refused(ParseDateTimeError::InvalidFieldValue)
+    Field::Refused(if find(s, delimiter) == 2 {
+        ParseDateTimeError::InvalidFieldValue
+    } else {
+        ParseDateTimeError::InvalidFieldWidth
+    })
 }
 
 // Nine places, of which those behind the last digit are 0; every digit is validated, those past nine too.

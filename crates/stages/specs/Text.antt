@@ -1,4 +1,4 @@
--- How a stamp is read (document 01): the whole text, stage by stage, each on the rest that the one before it left.
+-- How a stamp is read (document 01, as 02 amends it): the whole text, stage by stage, each on the rest that the one before it left.
 use mathlib.Core.Bool.{Bool, true, false, cond, _||_}
 use mathlib.Core.List.{List}
 use Prim.Native.Nat.{ℕ}

@@ -11,7 +11,7 @@ const ALPHABET: [char; 17] = [
 ];
 
 /// What stands before them: the places where the reader changes its mind.
-pub const PREFIXES: [&str; 28] = [
+pub const PREFIXES: [&str; 29] = [
     "",
     "+",
     "-",
@@ -37,6 +37,7 @@ pub const PREFIXES: [&str; 28] = [
     "2020-02-29 23:59:59.12345678",
     "2020-02-29 23:59:59.123456789",
     "-0001-12-31T",
+    "++02",
     "+214748364",
     "-2147483647",
     "000000000000002147483647-",

@@ -3,8 +3,8 @@
 /// Whether reading reaches a field of the right width that holds a `+`, which is refused (9) whatever the Rust says
 /// (02, ask 3).
 ///
-/// A field is reached if each one before it has its width, nothing but digits, and its delimiter. (Behind a year that
-/// is too large no field is; that is 9 on both sides.)
+/// A field is reached if each one before it has its width and its delimiter. (One that is no number for another reason,
+/// or too large, is 9 on both sides.)
 pub fn reaches_inner_plus(text: &[u8]) -> bool {
     let mut rest = match text {
         [b'+' | b'-', rest @ ..] => rest,
@@ -21,9 +21,7 @@ pub fn reaches_inner_plus(text: &[u8]) -> bool {
             return true;
         }
         match end {
-            Some(end) if right_width && field.iter().all(u8::is_ascii_digit) => {
-                rest = &rest[end + 1..];
-            }
+            Some(end) if right_width => rest = &rest[end + 1..],
             _ => return false,
         }
     }

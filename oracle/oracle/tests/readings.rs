@@ -3,9 +3,9 @@
 use oracle::desk::answer;
 use oracle::readings::{BEFORE_02, READINGS};
 
-/// Those that 02 amends are the only ones on which the Rust differs, and it answers them as 01 did.
+/// The Rust differs on those alone that 02 amends, and answers them as 01 did.
 #[test]
-fn the_rust_gives_each_reading_of_01() {
+fn the_rust_gives_the_readings_that_02_leaves() {
     let mut differences = Vec::new();
     for &(request, stated) in READINGS {
         let mut given = String::new();

@@ -158,8 +158,8 @@ fn add_two_faults(list: &mut List) {
 pub fn add_inner_plus(list: &mut List) {
     let last = FIELDS.len() - 1;
     for (first, plus) in [
-        (0, "+020"),
-        (0, "+2020"),
+        (0, "++020"),
+        (0, "-+2020"),
         (1, "+5"),
         (2, "+5"),
         (3, "+5"),
