@@ -4,10 +4,10 @@
 It is written from the prose of 01, 02 and DESK alone, shares nothing with the port or with the Rust,
 and has an answer to every line: any epoch, any nanoseconds, any bytes, any line and place.
 
-    judge.py             answers the requests on standard input, one line each
-    judge.py WORDS..     answers the one request that the words make
+    judge.py                        answers the requests on standard input, one line each
+    judge.py WORDS..                answers the one request that the words make
     judge.py --before-02 [WORDS..]  answers by 01 as it was before 02 amended it
-    judge.py --check     walks days one by one and holds the closed formula against the walk
+    judge.py --check                walks days one by one and holds the closed formula against the walk
 """
 
 import os

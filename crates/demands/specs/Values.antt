@@ -82,6 +82,6 @@ pub record DurationLiesAt (z : ℤ) (o : Outcome (ℕ × ℕ)) : Type 0 where
   pub value : (secs nanos : ℕ) → (o ≡ gives (secs, nanos)) ↔ (Duration secs nanos × (exact (pos secs) nanos ≡ z))
   pub none : (o ≡ refuses (refusal 10 [])) ↔ ((secs nanos : ℕ) → Duration secs nanos → exact (pos secs) nanos ≡ z → ⊥)
 
--- a byte is a digit, or a delimiter of one kind
+-- a byte is a digit, or a delimiter of some kind
 abbrev pub DigitOrDelimiter : ℕ → Type 0
 DigitOrDelimiter x = (isDigit x ≡ true) ⊎ ((d : Delimiter) × (isDelimiter d x ≡ true))

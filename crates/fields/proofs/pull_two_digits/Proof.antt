@@ -19,8 +19,8 @@ first k = is-digit (sym (k .before .before .before .before .is-digit .ensures) �
 second : (k : tie.Then3) → Digit (getD (k .before .before .before .before .before .before .before .before .args .s .now) 1 0)
 second k = is-digit (sym (k .before .is-digit2 .ensures) ∙ k .if3 .taken)
 
-neither : (k : tie.Then6) → let a = k .before .before .before .before .before .before .before .args in Refused InvalidFieldValue ≡ twoDigits (a .delimiter) (a .s .now)
-neither k =
+not-both : (k : tie.Then6) → let a = k .before .before .before .before .before .before .before .args in Refused InvalidFieldValue ≡ twoDigits (a .delimiter) (a .s .now)
+not-both k =
     pair-bad _ _ (omega arith) (sym (k .before .find .ensures .0) ∙ omega arith)
     (⊎-elim (λ w. inr (sym (w .2 .ensures) ∙ w .3 .left)) (λ w. inl (sym (k .before .before .before .is-digit .ensures) ∙ w .left)) (k .before .before .if2 .came))
 
@@ -61,7 +61,7 @@ find-requires : tie.Need-find-requires
 find-requires c κs = search needs
 
 returns-5 : tie.Need-returns-5
-returns-5 c = neither (search)
+returns-5 c = not-both (search)
 
 returns-6 : tie.Need-returns-6
 unfolding twoDigits
