@@ -7,7 +7,7 @@ use Rattle.errors.specs.declared.DateTimeError.the-variants.{OutOfRange}
 use Rattle.calendar.specs.Walk.{date}
 use Rattle.moments.specs.Moments.{secondsOf}
 pub use Rattle.seconds.specs.Counts.{representable, goodNanos}
-unfoldable pub use Rattle.seconds.specs.Counts.{newTime, fromUnix, toUnix, overEpoch, minusPlus}
+unfoldable pub use Rattle.seconds.specs.Counts.{newTime, fromUnix, toUnix, overEpoch}
 unfoldable pub use Rattle.durations.specs.Durations.{exact, timeAt, durationAt, added, taken, since, order, compared}
 pub use Rattle.dates.specs.Dates.{fieldsChecked}
 

@@ -101,12 +101,12 @@ module _ (epoch year : ℤ) (month day hour min sec nano : ℕ) where
 not-11 : {A : Type 0} (b : Bool) (o : Outcome A) → (o ≡ refuses (refusal 11 []) → ⊥) → check b (refusal 10 []) o ≡ refuses (refusal 11 []) → ⊥
 not-11 b o h e = ⊎-elim (λ p. absurd (omega (arith, ap (λ r. r .number) (p .1)))) (λ p. h (p .1)) (refused-by b (refusal 10 []) o e)
 
-sums-not : {A : Type 0} (y z : ℤ) (x : A) → representable y (representable z (gives x)) ≡ refuses (refusal 11 []) → ⊥
-sums-not y z x = not-11 (isI64 y) (representable z (gives x)) (not-11 (isI64 z) (gives x) (λ e. refuses-not (sym e)))
+sum-not : {A : Type 0} (z : ℤ) (x : A) → representable z (gives x) ≡ refuses (refusal 11 []) → ⊥
+sum-not z x = not-11 (isI64 z) (gives x) (λ e. refuses-not (sym e))
 
 time-not : (z : ℤ) → timeAt z ≡ refuses (refusal 11 []) → ⊥
 unfolding timeAt
-time-not z = not-11 (isI64 (floorDiv 1000000000 z)) (gives (floorDiv 1000000000 z, floorMod 1000000000 z)) (λ e. refuses-not (sym e))
+time-not z = sum-not (floorDiv 1000000000 z) (floorDiv 1000000000 z, floorMod 1000000000 z)
 
 duration-not : (z : ℤ) → durationAt z ≡ refuses (refusal 11 []) → ⊥
 unfolding durationAt
@@ -129,12 +129,12 @@ module _ (secs : ℤ) (nanos : ℕ) where
   -- to Unix,
   pub to-unix-11-exactly : (epoch leap : ℤ) → (toUnix epoch secs nanos leap ≡ refuses (refusal 11 [])) ↔ (1000000000 ≤ nanos)
   unfolding toUnix
-  to-unix-11-exactly epoch leap = one nanos _ (sums-not (secs -ℤ leap) (secs -ℤ leap +ℤ epoch) (secs -ℤ leap +ℤ epoch))
+  to-unix-11-exactly epoch leap = one nanos _ (sum-not (secs -ℤ leap +ℤ epoch) (secs -ℤ leap +ℤ epoch))
 
   -- over another epoch,
   pub over-epoch-11-exactly : (old new : ℤ) → (overEpoch old new secs nanos ≡ refuses (refusal 11 [])) ↔ (1000000000 ≤ nanos)
   unfolding overEpoch
-  over-epoch-11-exactly old new = one nanos _ (sums-not (old -ℤ new) (old -ℤ new +ℤ secs) (old -ℤ new +ℤ secs, nanos))
+  over-epoch-11-exactly old new = one nanos _ (sum-not (old -ℤ new +ℤ secs) (old -ℤ new +ℤ secs, nanos))
 
   -- with a duration added or taken,
   pub added-11-exactly : (dsecs dnanos : ℕ) → (added secs nanos dsecs dnanos ≡ refuses (refusal 11 [])) ↔ ((1000000000 ≤ nanos) ⊎ (1000000000 ≤ dnanos))
@@ -155,15 +155,8 @@ module _ (secs : ℤ) (nanos : ℕ) where
   compared-11-exactly secs′ nanos′ = two nanos nanos′ (gives (order (exact secs nanos) (exact secs′ nanos′))) (λ e. refuses-not (sym e))
 
 -- ---- Conversions
-last-sum : {A : Type 0} (z : ℤ) (x : A) → (representable z (gives x) ≡ refuses (refusal 10 [])) ↔ LeavesI64 z
-last-sum z x = (λ e. ⊎-elim (λ p. p .0) (λ p. absurd (refuses-not (sym (p .1)))) (refused-by (isI64 z) (refusal 10 []) (gives x) e), λ n. rw n)
-
-sum-then : {A Then : Type 0} (z : ℤ) (o : Outcome A) → (o ≡ refuses (refusal 10 [])) ↔ Then → (representable z o ≡ refuses (refusal 10 [])) ↔ (LeavesI64 z ⊎ Then)
-sum-then z o h = (λ e. ⊎-elim (λ p. inl (p .0)) (λ p. inr (h .0 (p .1))) (refused-by (isI64 z) (refusal 10 []) o e), ⊎-elim (λ n. rw n) (λ t. again (isI64 z) (h .1 t)))
-  where
-    again : (b : Bool) → o ≡ refuses (refusal 10 []) → check b (refusal 10 []) o ≡ refuses (refusal 10 [])
-    again true e = e
-    again false e = refl
+leaves : {A : Type 0} (z : ℤ) (x : A) → (representable z (gives x) ≡ refuses (refusal 10 [])) ↔ LeavesI64 z
+leaves z x = (λ e. ⊎-elim (λ p. p .0) (λ p. absurd (refuses-not (sym (p .1)))) (refused-by (isI64 z) (refusal 10 []) (gives x) e), λ n. rw n)
 
 good-then : {A Then : Type 0} (nanos : ℕ) (o : Outcome A) → (o ≡ refuses (refusal 10 [])) ↔ Then → (goodNanos nanos o ≡ refuses (refusal 10 [])) ↔ ((nanos < 1000000000) × Then)
 good-then nanos o h = (
@@ -171,24 +164,21 @@ good-then nanos o h = (
   λ (n, t). rw (lt-ltb nanos 1000000000 n) (h .1 t),
 )
 
--- 10 is given exactly if a partial sum leaves i64: of Unix to timestamp the carry, then the leap seconds, then the epoch;
-pub from-unix-10-exactly : (epoch unix : ℤ) (nanos : ℕ) (leap : ℤ) → let carried = unix +ℤ pos (nanos / 1000000000) in
-    (fromUnix epoch unix nanos leap ≡ refuses (refusal 10 [])) ↔ (LeavesI64 carried ⊎ (LeavesI64 (carried +ℤ leap) ⊎ LeavesI64 (carried +ℤ leap -ℤ epoch)))
+-- 10 is given exactly if the exact sum leaves i64: of Unix to timestamp,
+pub from-unix-10-exactly : (epoch unix : ℤ) (nanos : ℕ) (leap : ℤ) → (fromUnix epoch unix nanos leap ≡ refuses (refusal 10 [])) ↔ LeavesI64 (unix +ℤ pos (nanos / 1000000000) +ℤ leap -ℤ epoch)
 unfolding fromUnix
-from-unix-10-exactly epoch unix nanos leap =
-    let carried = unix +ℤ pos (nanos / 1000000000) in
-    sum-then carried _ (sum-then (carried +ℤ leap) _ (last-sum (carried +ℤ leap -ℤ epoch) (carried +ℤ leap -ℤ epoch, nanos % 1000000000)))
+from-unix-10-exactly epoch unix nanos leap = leaves (unix +ℤ pos (nanos / 1000000000) +ℤ leap -ℤ epoch) _
 
 module _ (secs : ℤ) (nanos : ℕ) where
-  -- of timestamp to Unix the leap seconds, then the epoch, after 11;
-  pub to-unix-10-exactly : (epoch leap : ℤ) → (toUnix epoch secs nanos leap ≡ refuses (refusal 10 [])) ↔ ((nanos < 1000000000) × (LeavesI64 (secs -ℤ leap) ⊎ LeavesI64 (secs -ℤ leap +ℤ epoch)))
+  -- of timestamp to Unix, after 11,
+  pub to-unix-10-exactly : (epoch leap : ℤ) → (toUnix epoch secs nanos leap ≡ refuses (refusal 10 [])) ↔ ((nanos < 1000000000) × LeavesI64 (secs -ℤ leap +ℤ epoch))
   unfolding toUnix
-  to-unix-10-exactly epoch leap = good-then nanos _ (sum-then (secs -ℤ leap) _ (last-sum (secs -ℤ leap +ℤ epoch) (secs -ℤ leap +ℤ epoch)))
+  to-unix-10-exactly epoch leap = good-then nanos _ (leaves (secs -ℤ leap +ℤ epoch) _)
 
-  -- of a change of epoch old minus new, then the seconds, after 11.
-  pub over-epoch-10-exactly : (old new : ℤ) → (overEpoch old new secs nanos ≡ refuses (refusal 10 [])) ↔ ((nanos < 1000000000) × (LeavesI64 (old -ℤ new) ⊎ LeavesI64 (old -ℤ new +ℤ secs)))
+  -- and of a change of epoch, after 11.
+  pub over-epoch-10-exactly : (old new : ℤ) → (overEpoch old new secs nanos ≡ refuses (refusal 10 [])) ↔ ((nanos < 1000000000) × LeavesI64 (old -ℤ new +ℤ secs))
   unfolding overEpoch
-  over-epoch-10-exactly old new = good-then nanos _ (sum-then (old -ℤ new) _ (last-sum (old -ℤ new +ℤ secs) (old -ℤ new +ℤ secs, nanos)))
+  over-epoch-10-exactly old new = good-then nanos _ (leaves (old -ℤ new +ℤ secs) _)
 
 -- ---- Printing
 module _ (secs : ℤ) (nanos : ℕ) (epoch : ℤ) (precision : Precision) (line : List ℕ) (at : ℕ) where

@@ -4,6 +4,7 @@ pub mod Demand3
 pub mod Readings
 pub mod LongestText
 pub mod GivenWhen
+pub mod Conversions
 pub mod TextOrder
 pub mod DigitsOnly
 pub mod Passed

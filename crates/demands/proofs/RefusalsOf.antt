@@ -70,18 +70,15 @@ from-date-only epoch year month day hour min sec nano =
 -- ---- counts
 pub from-unix-only : (epoch unix : ℤ) (nanos : ℕ) (leap : ℤ) → OnlyRefuses (10 ∷ []) [] (fromUnix epoch unix nanos leap)
 unfolding fromUnix
-from-unix-only epoch unix nanos leap =
-    let z = unix +ℤ pos (nanos / 1000000000) in
-    at-check (isI64 z) (refusal 10 []) _ tt
-    (at-check (isI64 (z +ℤ leap)) (refusal 10 []) _ tt (at-check (isI64 (z +ℤ leap -ℤ epoch)) (refusal 10 []) _ tt a-value))
+from-unix-only epoch unix nanos leap = at-check (isI64 (unix +ℤ pos (nanos / 1000000000) +ℤ leap -ℤ epoch)) (refusal 10 []) _ tt a-value
 
 pub to-unix-only : (epoch secs : ℤ) (nanos : ℕ) (leap : ℤ) → OnlyRefuses sums [] (toUnix epoch secs nanos leap)
 unfolding toUnix
-to-unix-only epoch secs nanos leap = good nanos _ (fit (secs -ℤ leap) _ (fit (secs -ℤ leap +ℤ epoch) _ a-value))
+to-unix-only epoch secs nanos leap = good nanos _ (fit (secs -ℤ leap +ℤ epoch) _ a-value)
 
 pub over-epoch-only : (old new secs : ℤ) (nanos : ℕ) → OnlyRefuses sums [] (overEpoch old new secs nanos)
 unfolding overEpoch
-over-epoch-only old new secs nanos = good nanos _ (fit (old -ℤ new) _ (fit (old -ℤ new +ℤ secs) _ a-value))
+over-epoch-only old new secs nanos = good nanos _ (fit (old -ℤ new +ℤ secs) _ a-value)
 
 time-only : (z : ℤ) → OnlyRefuses sums [] (timeAt z)
 unfolding timeAt

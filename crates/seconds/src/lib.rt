@@ -1,11 +1,10 @@
-// Counts from one reference to another. Each partial sum must be an i64, as in the Rust.
+// Counts from one reference to another, refused only for the exact result: the Rust refuses for a partial sum.
 use errors::CountError;
 use integers::Checked;
-use integers::checked_add;
-use integers::checked_sub;
+use integers::checked_sum;
 ghost use mathlib.Core.Path.{_≡_};
 ghost use Rattle.seconds.specs.Said.{saidCounted, saidUnix};
-ghost use Rattle.seconds.specs.Counts.{fromUnix, minusPlus, toUnix, overEpoch};
+ghost use Rattle.seconds.specs.Counts.{fromUnix, toUnix, overEpoch};
 
 // A count of Unix seconds.
 pub struct UnixSeconds(pub i64);
@@ -26,26 +25,10 @@ pub fn from_unix(epoch: i64, unix: i64, nanos: u32, leap: i64) -> Counted
     ensures { λ r. ⌜ saidCounted r ≡ fromUnix epoch unix nanos leap ⌝ }
 {
     let carry = (nanos / 1000000000) as i64;
-    let Checked::Exact(carried) = checked_add(unix, carry) else {
-        return Counted::Refused(CountError::NotRepresentable);
-    };
-    let Checked::Exact(atomic) = checked_add(carried, leap) else {
-        return Counted::Refused(CountError::NotRepresentable);
-    };
-    let Checked::Exact(secs) = checked_sub(atomic, epoch) else {
+    let Checked::Exact(secs) = checked_sum(unix, carry, leap, epoch) else {
         return Counted::Refused(CountError::NotRepresentable);
     };
     Counted::At(secs, nanos % 1000000000)
-}
-
-// a - less + more, where that and a - less are i64's.
-fn minus_plus(a: i64, less: i64, more: i64) -> Checked
-    ensures { λ r. ⌜ r ≡ minusPlus a less more ⌝ }
-{
-    let Checked::Exact(between) = checked_sub(a, less) else {
-        return Checked::Outside;
-    };
-    checked_add(between, more)
 }
 
 // Timestamp to Unix: - leap, + epoch.
@@ -55,7 +38,7 @@ pub fn to_unix(epoch: i64, secs: i64, nanos: u32, leap: i64) -> UnixAnswer
     if 999999999 < nanos {
         return UnixAnswer::Refused(CountError::BadNanos);
     }
-    let Checked::Exact(unix) = minus_plus(secs, leap, epoch) else {
+    let Checked::Exact(unix) = checked_sum(secs, epoch, 0, leap) else {
         return UnixAnswer::Refused(CountError::NotRepresentable);
     };
     UnixAnswer::At(UnixSeconds(unix))
@@ -68,7 +51,7 @@ pub fn over_epoch(old: i64, new: i64, secs: i64, nanos: u32) -> Counted
     if 999999999 < nanos {
         return Counted::Refused(CountError::BadNanos);
     }
-    let Checked::Exact(moved) = minus_plus(old, new, secs) else {
+    let Checked::Exact(moved) = checked_sum(old, secs, 0, new) else {
         return Counted::Refused(CountError::NotRepresentable);
     };
     Counted::At(moved, nanos)

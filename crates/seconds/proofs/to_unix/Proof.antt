@@ -1,30 +1,29 @@
--- `seconds::to_unix`: both checks of `minus_plus`, passed or refused.
+-- `seconds::to_unix`: the call tells whether the exact sum is an i64.
 use mathlib.Core.Path.{_≡_, ap, _∙_}
 use native.Mathlib.Omega.{arith}
+use lib.IntN.{_+ℤ_, _-ℤ_}
 use mir.Facts.{toZ-ofZ}
 use mir.Syntax.{w64}
 use mir.Val.{SFits}
 use borrow.Author.Needs.{needs}
+use Rattle.integers.specs.Integers.{checked}
 use Rattle.errors.specs.Refusals.{gives}
-use Rattle.seconds.specs.Counts.{minusPlus, toUnix}
-use Rattle.seconds.proofs.Checks.{bad, good, steps-refused, steps-passed, steps-value}
+use Rattle.seconds.specs.Counts.{toUnix}
+use Rattle.seconds.proofs.Checks.{bad, good, outside, inside, value, in-turn}
 use Rattle.seconds.proofs.to_unix.Statement.{statement}
 use Rattle.seconds.proofs.to_unix.Tie as tie
 
-steps : (k : tie.After-minus-plus) → let a = k .before .before .args in k .minus-plus .result ≡ minusPlus (a .secs) (a .leap) (a .epoch)
-steps k =
+sum : (k : tie.After-checked-sum) → let a = k .before .before .args in k .checked-sum .result ≡ checked (a .secs -ℤ a .leap +ℤ a .epoch)
+sum k =
     let s = k .before .before in
-    let f = s .fits .secs in
-    let g = s .fits .leap in
-    let h = s .fits .epoch in
-    simp toZ-ofZ at (k .minus-plus .ensures)
+    (simp (toZ-ofZ, s .fits .secs, s .fits .leap, s .fits .epoch) at (k .checked-sum .ensures)) ∙ ap checked (in-turn (s .args .secs) (s .args .epoch) (s .args .leap))
 
 returns : tie.Need-returns
 unfolding toUnix
 returns c = rw (bad (c .before .args .nanos) (c .if1 .taken))
 
-minus-plus-requires : tie.Need-minus-plus-requires
-minus-plus-requires c κs = search needs
+checked-sum-requires : tie.Need-checked-sum-requires
+checked-sum-requires c κs = search needs
 
 enum-known-unix : tie.Need-enum-known-unix
 enum-known-unix c = search needs
@@ -34,15 +33,16 @@ enum-told c = search needs
 
 returns-2 : tie.Need-returns-2
 unfolding toUnix
-returns-2 c = rw (good (c .before .before .before .before .args .nanos) (omega arith)) (steps-refused (c .before .before .before .before .args .secs) (c .before .before .before .before .args .leap) (c .before .before .before .before .args .epoch) (steps (search)) _ (c .enum-told .given .1))
+returns-2 c = rw (good (c .before .before .before .before .args .nanos) (omega arith), outside _ (sum (c .before .before)) (c .enum-told .given .1))
 
 returns-3 : tie.Need-returns-3
 unfolding toUnix
 returns-3 c = let f : SFits w64 (c .before .unix .given .0 .0) = search needs in
-    let e = c .before .unix .given .1 in
-    let a = c .before .before .before .before .before .args in
-    rw (good (a .nanos) (omega arith)) (ap gives (toZ-ofZ {w = w64} f ∙ steps-value (a .secs) (a .leap) (a .epoch) (steps (search)) e) ∙ steps-passed (a .secs) (a .leap) (a .epoch) (steps (search)) _ e)
+    let nanos = c .before .before .before .before .before .args .nanos in
+    let e = sum (c .before .before .before) in
+    let g = c .before .unix .given .1 in
+    rw (good nanos (omega arith), inside _ e g) (ap gives (toZ-ofZ {w = w64} f ∙ value _ e g))
 
 pub to-unix-spec : {M : Type 1} → statement M
 to-unix-spec =
-    tie.close (tie.spec returns minus-plus-requires enum-known-unix enum-told returns-2 returns-3)
+    tie.close (tie.spec returns checked-sum-requires enum-known-unix enum-told returns-2 returns-3)
