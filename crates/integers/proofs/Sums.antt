@@ -2,16 +2,16 @@
 use mathlib.Core.Path.{_≡_, refl, ap, sym, _∙_}
 use mathlib.Core.Bool.{Bool, cond, true, false}
 use mathlib.Core.Logic.{_↔_}
-use Prim.Native.Nat.{ℕ, suc, _+_, _-_, _*_, _/_, _^_, _<_, _≤_, max}
+use Prim.Native.Nat.{ℕ, suc, _+_, _-_, _*_, _/_, _%_, _^_, _<_, _≤_, max}
 use native.Mathlib.Decide.{decLe}
 use native.Mathlib.Nat.{le-div-iff-mul-le, lt-of-not-le}
 use native.Mathlib.Omega.{arith}
 use lib.Dec.{ltb, leb}
 use lib.IntN.{ℤ, pos, negsuc}
 use mir.Syntax.{w64}
-use mir.Val.{SFits, toZ, ofZ}
+use mir.Val.{SFits, toZ, ofZ, boolByte}
 use mir.ValLaws.{toZ-ofZ}
-use borrow.Author.Tests.{lt-ltb, le-ltb, le-leb, lt-leb}
+use borrow.Author.Tests.{lt-ltb, le-ltb, le-leb, lt-leb, ltb-true, ltb-false}
 use Rattle.integers.specs.Integers.{isI64, checked}
 use Rattle.integers.specs.declared.Checked.the-variants.{Exact, Outside}
 use Rattle.integers.proofs.Signed.{plus, minus, eqZ}
@@ -75,3 +75,22 @@ outside-tells z e = go (isI64 z) refl e
     go : (b : Bool) → isI64 z ≡ b → Outside ≡ cond b (Exact z) Outside → isI64 z ≡ false
     go true p q = let n : _≡_ {A = ℕ} 0 1 = cc in absurd (omega arith)
     go false p q = p
+
+-- ---- a wrapping sum has carried exactly if it is below an addend, a wrapping difference has borrowed if what it was taken from was
+pub byte-one : (b : Bool) → boolByte b ≤ 1
+byte-one true = omega arith
+byte-one false = omega arith
+
+pub carried : (x y : ℕ) {r : ℕ} → x < 2 ^ 64 → y < 2 ^ 64 → r ≡ (x + y) % 2 ^ 64 → r + 2 ^ 64 * boolByte (ltb r x) ≡ x + y
+carried x y {r} h k e = go (ltb r x) refl
+  where
+    go : (b : Bool) → ltb r x ≡ b → r + 2 ^ 64 * boolByte b ≡ x + y
+    go true f = omega (arith, ltb-true r x f)
+    go false f = omega (arith, ltb-false r x f)
+
+pub borrowed : (x y : ℕ) {r : ℕ} → r < 2 ^ 64 → y < 2 ^ 64 → (r + y) % 2 ^ 64 ≡ x → r + y ≡ x + 2 ^ 64 * boolByte (ltb x y)
+borrowed x y {r} h k e = go (ltb x y) refl
+  where
+    go : (b : Bool) → ltb x y ≡ b → r + y ≡ x + 2 ^ 64 * boolByte b
+    go true f = omega (arith, ltb-true x y f)
+    go false f = omega (arith, ltb-false x y f)

@@ -12,8 +12,6 @@ const LOW: i64 = -9223372036854775808;
 
 const TOP: i64 = 9223372036854775807;
 
-const TURN: u64 = 4294967296;
-
 // An exact result that an i64 holds, or none.
 pub enum Checked {
     Exact(i64),
@@ -157,13 +155,39 @@ pub fn sub_parts(a: Parts, b: Parts, divisor: u64) -> Parts
     }
 }
 
-// a + b + c - less, decided on the exact sum: what comes on the way need not fit.
-pub fn checked_sum(a: i64, b: i64, c: i64, less: i64) -> Checked
-    ensures { λ r. ⌜ r ≡ checked (a +ℤ b +ℤ c -ℤ less) ⌝ }
+// x + 2^63, which turns every i64 into a u64 and keeps the order.
+fn raised(x: i64) -> u64
+    ensures { λ r. ⌜ pos r ≡ x +ℤ pos (2 ^ 63) ⌝ }
 {
-    let two = add_parts(floor_split(a, TURN), floor_split(b, TURN), TURN);
-    let three = add_parts(two, floor_split(c, TURN), TURN);
-    floor_join(sub_parts(three, floor_split(less, TURN), TURN), TURN)
+    if x < 0 {
+        return (x - LOW) as u64;
+    }
+    9223372036854775808 + (x as u64)
+}
+
+// x - 2^63, the way back.
+fn lowered(x: u64) -> i64
+    ensures { λ r. ⌜ r ≡ pos x -ℤ pos (2 ^ 63) ⌝ }
+{
+    if x < 9223372036854775808 {
+        return LOW + (x as i64);
+    }
+    (x - 9223372036854775808) as i64
+}
+
+// a + more + b - less, decided on the exact sum: what leaves on the way comes back if it carries as often as it borrows.
+pub fn checked_sum(a: i64, more: u64, b: i64, less: i64) -> Checked
+    ensures { λ r. ⌜ r ≡ checked (a +ℤ pos more +ℤ b -ℤ less) ⌝ }
+{
+    let first = raised(a);
+    let last = raised(less);
+    let two = std::num::wrapping_add_u64(first, more);
+    let three = std::num::wrapping_add_u64(two, raised(b));
+    let carries = (two < first) as u64 + (three < two) as u64;
+    if carries == (three < last) as u64 {
+        return Checked::Exact(lowered(std::num::wrapping_sub_u64(three, last)));
+    }
+    Checked::Outside
 }
 
 // The 64 bits of a number in two's complement.

@@ -29,6 +29,6 @@ module _ {s : Checked} (z : ℤ) (e : s ≡ checked z) where
   value f = exact-tells z (sym f ∙ e) .1
 
 -- the sum as `checked_sum` is handed it, and as it is meant
-pub in-turn : (a more less : ℤ) → a +ℤ more +ℤ pos 0 -ℤ less ≡ a -ℤ less +ℤ more
+pub in-turn : (a more less : ℤ) → a +ℤ pos 0 +ℤ more -ℤ less ≡ a -ℤ less +ℤ more
 in-turn a more less = eqZ _ _
-    (omega (arith, diff-law (a +ℤ more +ℤ pos 0) less, add-law (a +ℤ more) (pos 0), add-law a more, add-law (a -ℤ less) more, diff-law a less))
+    (omega (arith, diff-law (a +ℤ pos 0 +ℤ more) less, add-law (a +ℤ pos 0) more, add-law a (pos 0), add-law (a -ℤ less) more, diff-law a less))

@@ -24,7 +24,7 @@ pub enum UnixAnswer {
 pub fn from_unix(epoch: i64, unix: i64, nanos: u32, leap: i64) -> Counted
     ensures { λ r. ⌜ saidCounted r ≡ fromUnix epoch unix nanos leap ⌝ }
 {
-    let carry = (nanos / 1000000000) as i64;
+    let carry = (nanos / 1000000000) as u64;
     let Checked::Exact(secs) = checked_sum(unix, carry, leap, epoch) else {
         return Counted::Refused(CountError::NotRepresentable);
     };
@@ -38,7 +38,7 @@ pub fn to_unix(epoch: i64, secs: i64, nanos: u32, leap: i64) -> UnixAnswer
     if 999999999 < nanos {
         return UnixAnswer::Refused(CountError::BadNanos);
     }
-    let Checked::Exact(unix) = checked_sum(secs, epoch, 0, leap) else {
+    let Checked::Exact(unix) = checked_sum(secs, 0, epoch, leap) else {
         return UnixAnswer::Refused(CountError::NotRepresentable);
     };
     UnixAnswer::At(UnixSeconds(unix))
@@ -51,7 +51,7 @@ pub fn over_epoch(old: i64, new: i64, secs: i64, nanos: u32) -> Counted
     if 999999999 < nanos {
         return Counted::Refused(CountError::BadNanos);
     }
-    let Checked::Exact(moved) = checked_sum(old, secs, 0, new) else {
+    let Checked::Exact(moved) = checked_sum(old, 0, secs, new) else {
         return Counted::Refused(CountError::NotRepresentable);
     };
     Counted::At(moved, nanos)

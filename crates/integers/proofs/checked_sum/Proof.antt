@@ -1,63 +1,110 @@
--- `integers::checked_sum`: each step has the parts of the exact sum so far.
-use mathlib.Core.Path.{ap, _∙_}
-use Prim.Native.Nat.{_^_}
+-- `integers::checked_sum`: the raised numbers, and what was carried and borrowed, make the exact sum.
+use mathlib.Core.Path.{_≡_}
+use Prim.Native.Nat.{ℕ, _+_, _-_, _*_, _%_, _^_}
 use native.Mathlib.Omega.{arith}
-use lib.IntN.{_+ℤ_}
+use lib.Dec.{ltb}
+use lib.IntN.{ℤ, pos, _+ℤ_, _-ℤ_}
+use mir.Syntax.{w64}
+use mir.Val.{SFits, toZ, ofZ, boolByte}
 use borrow.Author.Needs.{needs}
-use Rattle.integers.specs.Integers.{checked}
-use Rattle.integers.proofs.Signed.{add-law}
-use Rattle.integers.proofs.Machine.{known, two}
-use Rattle.integers.proofs.Floor.{PartsOf, of-split, of-add, of-sub, whole-of, proper}
+use Rattle.integers.proofs.Signed.{plus, minus, add-law, diff-law}
+use Rattle.integers.proofs.Machine.{known, known64, known-add, known-sub}
+use Rattle.integers.proofs.Sums.{exact, none, byte-one, carried, borrowed}
 use Rattle.integers.proofs.checked_sum.Statement.{statement}
 use Rattle.integers.proofs.checked_sum.Tie as tie
 
-two-of : (k : tie.After-add-parts) → let a = k .before .before .before .args in PartsOf (2 ^ 32) (a .a +ℤ a .b) (k .add-parts .result)
-two-of k = let s = k .before .before .before in of-add (of-split (s .fits .a) (k .before .before .floor-split .ensures)) (of-split (s .fits .b) (k .before .floor-split2 .ensures)) (k .add-parts .ensures)
+of-raised : {x : ℤ} {r : ℕ} → SFits w64 x → pos r ≡ toZ w64 (ofZ w64 x) +ℤ pos (2 ^ 63) → r + minus x ≡ plus x + 2 ^ 63
+of-raised {x} {r} f e = omega (arith, known f, known-add (pos r) (toZ w64 (ofZ w64 x)) (pos (2 ^ 63)) e)
 
-three-of : (k : tie.After-add-parts2) → let a = k .before .before .before .before .before .args in PartsOf (2 ^ 32) (a .a +ℤ a .b +ℤ a .c) (k .add-parts2 .result)
-three-of k = of-add (two-of (k .before .before)) (of-split (k .before .before .before .before .before .fits .c) (k .before .floor-split3 .ensures)) (k .add-parts2 .ensures)
+-- ---- what the code has named, once both sums are made
+abbrev first : tie.After-wrapping-add-u642 → ℕ
+first k = k .before .before .before .before .raised .result
 
-floor-split-requires : tie.Need-floor-split-requires
-floor-split-requires c κs = search needs
+abbrev last : tie.After-wrapping-add-u642 → ℕ
+last k = k .before .before .before .raised2 .result
 
-floor-split-requires-2 : tie.Need-floor-split-requires-2
-floor-split-requires-2 c κs = search needs
+abbrev two : tie.After-wrapping-add-u642 → ℕ
+two k = k .before .before .wrapping-add-u64 .result
 
-add-parts-requires : tie.Need-add-parts-requires
-add-parts-requires c κs = let f = known (c .before .before .fits .a) in let g = known (c .before .before .fits .b) in
-    (proper _ (of-split (c .before .before .fits .a) (c .before .floor-split .ensures)) (omega arith) (omega arith) (omega arith), proper _ (of-split (c .before .before .fits .b) (c .floor-split2 .ensures)) (omega arith) (omega arith) (omega arith))
+abbrev three : tie.After-wrapping-add-u642 → ℕ
+three k = k .wrapping-add-u642 .result
 
-floor-split-requires-3 : tie.Need-floor-split-requires-3
-floor-split-requires-3 c κs = search needs
+abbrev carries : tie.After-wrapping-add-u642 → ℕ
+carries k = boolByte (ltb (two k) (first k)) + boolByte (ltb (three k) (two k))
 
-add-parts-requires-2 : tie.Need-add-parts-requires-2
-add-parts-requires-2 c κs = let f = two (c .before .before .before .before .fits .a) (c .before .before .before .before .fits .b) in let g = known (c .before .before .before .before .fits .c) in
-    (proper _ (two-of (c .before)) (omega arith) (omega arith) (omega arith), proper _ (of-split (c .before .before .before .before .fits .c) (c .floor-split3 .ensures)) (omega arith) (omega arith) (omega arith))
+abbrev total : tie.After-wrapping-add-u642 → ℤ
+total k = let a = k .before .before .before .before .before .args in a .a +ℤ pos (a .more) +ℤ a .b -ℤ a .less
 
-floor-split-requires-4 : tie.Need-floor-split-requires-4
-floor-split-requires-4 c κs = search needs
+so-far : (k : tie.After-wrapping-add-u642) → plus (total k) + last k + 2 ^ 63 ≡ minus (total k) + three k + 2 ^ 64 * carries k
+so-far k =
+    let s = k .before .before .before .before .before in
+    let a = s .args in
+    let sum-two = carried (first k) (a .more) (search needs) (search needs) (k .before .before .wrapping-add-u64 .ensures) in
+    let sum-three = carried (two k) (k .before .raised3 .result) (search needs) (search needs) (k .wrapping-add-u642 .ensures) in
+    omega
+    (arith, sum-two, sum-three, of-raised (s .fits .a) (k .before .before .before .before .raised .ensures), of-raised (s .fits .b) (k .before .raised3 .ensures), of-raised (s .fits .less) (k .before .before .before .raised2 .ensures), diff-law (a .a +ℤ pos (a .more) +ℤ a .b) (a .less), add-law (a .a +ℤ pos (a .more)) (a .b), add-law (a .a) (pos (a .more)))
 
-sub-parts-requires : tie.Need-sub-parts-requires
-sub-parts-requires c κs = let f = two (c .before .before .before .before .before .before .fits .a) (c .before .before .before .before .before .before .fits .b) in let g = known (c .before .before .before .before .before .before .fits .c) in let h = known (c .before .before .before .before .before .before .fits .less) in
-    let l = add-law (c .before .before .before .before .before .before .args .a +ℤ c .before .before .before .before .before .before .args .b) (c .before .before .before .before .before .before .args .c) in
-    (proper _ (three-of (c .before)) (omega arith) (omega arith) (omega arith), proper _ (of-split (c .before .before .before .before .before .before .fits .less) (c .floor-split4 .ensures)) (omega arith) (omega arith) (omega arith))
+raised-requires : tie.Need-raised-requires
+raised-requires c κs = search needs
 
-floor-join-requires : tie.Need-floor-join-requires
-floor-join-requires c κs = search needs
+raised-requires-2 : tie.Need-raised-requires-2
+raised-requires-2 c κs = search needs
+
+wrapping-add-u64-requires : tie.Need-wrapping-add-u64-requires
+wrapping-add-u64-requires c κs = search needs
+
+raised-requires-3 : tie.Need-raised-requires-3
+raised-requires-3 c κs = search needs
+
+wrapping-add-u64-requires-2 : tie.Need-wrapping-add-u64-requires-2
+wrapping-add-u64-requires-2 c κs = search needs
+
+cast-carries : tie.Need-cast-carries
+cast-carries c = search needs
+
+cast-carries-2 : tie.Need-cast-carries-2
+cast-carries-2 c = search needs
+
+add-carries : tie.Need-add-carries
+add-carries c = record { fits = omega (arith, byte-one (ltb (two c) (first c)), byte-one (ltb (three c) (two c))) }
+
+cast-if1 : tie.Need-cast-if1
+cast-if1 c = search needs
+
+wrapping-sub-u64-requires : tie.Need-wrapping-sub-u64-requires
+wrapping-sub-u64-requires c κs = search needs
+
+lowered-requires : tie.Need-lowered-requires
+lowered-requires c κs = search needs
 
 returns : tie.Need-returns
-returns c = c .floor-join .ensures ∙ ap checked (whole-of _ (of-sub (three-of (c .before .before .before)) (of-split (c .before .before .before .before .before .before .before .before .fits .less) (c .before .before .floor-split4 .ensures)) (c .before .sub-parts .ensures)))
+returns c =
+    let k = c .before .before .before in
+    let d = c .before .wrapping-sub-u64 in
+    let x = c .lowered .result in
+    exact (total k) (known64 x (c .lowered .ok) .self)
+    (omega (arith, so-far k, borrowed (three k) (last k) (search needs) (search needs) (d .ensures), known-sub x (pos (d .result)) (pos (2 ^ 63)) (c .lowered .ensures)))
+
+returns-2 : tie.Need-returns-2
+returns-2 c =
+    let k = c .before in
+    none (total k)
+    (omega (arith, so-far k, borrowed (three k) (last k) {r = (three k + (2 ^ 64 - last k)) % 2 ^ 64} (omega arith) (search needs) (omega (arith, k .wrapping-add-u642 .ok))))
 
 pub checked-sum-spec : {M : Type 1} → statement M
 checked-sum-spec =
     tie.close
     (tie.spec
-    floor-split-requires
-    floor-split-requires-2
-    add-parts-requires
-    floor-split-requires-3
-    add-parts-requires-2
-    floor-split-requires-4
-    sub-parts-requires
-    floor-join-requires
-    returns)
+    raised-requires
+    raised-requires-2
+    wrapping-add-u64-requires
+    raised-requires-3
+    wrapping-add-u64-requires-2
+    cast-carries
+    cast-carries-2
+    add-carries
+    cast-if1
+    wrapping-sub-u64-requires
+    lowered-requires
+    returns
+    returns-2)

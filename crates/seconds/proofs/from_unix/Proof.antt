@@ -3,7 +3,7 @@ use mathlib.Core.Path.{_≡_, ap, _∙_}
 use Prim.Native.Nat.{_/_, _%_}
 use native.Mathlib.Omega.{arith}
 use lib.IntN.{pos, _+ℤ_, _-ℤ_}
-use mir.Facts.{toZ-ofZ, toZ-pos}
+use mir.Facts.{toZ-ofZ}
 use mir.Syntax.{w64}
 use mir.Val.{SFits}
 use borrow.Author.Needs.{needs}
@@ -15,10 +15,7 @@ use Rattle.seconds.proofs.from_unix.Statement.{statement}
 use Rattle.seconds.proofs.from_unix.Tie as tie
 
 sum : (k : tie.After-checked-sum) → let a = k .before .args in k .checked-sum .result ≡ checked (a .unix +ℤ pos (a .nanos / 1000000000) +ℤ a .leap -ℤ a .epoch)
-sum k =
-    let s = k .before .fits in
-    let carry = toZ-pos w64 {n = k .before .args .nanos / 1000000000} (omega arith) in
-    simp (toZ-ofZ, carry, s .unix, s .leap, s .epoch) at (k .checked-sum .ensures)
+sum k = let f = k .before .fits in simp (toZ-ofZ, f .unix, f .leap, f .epoch) at (k .checked-sum .ensures)
 
 cast-carry : tie.Need-cast-carry
 cast-carry c = search needs
