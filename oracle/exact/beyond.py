@@ -6,6 +6,7 @@
 """
 
 import sys
+from itertools import product
 
 sys.dont_write_bytecode = True
 
@@ -86,6 +87,22 @@ def add_sums_over_other_epochs(requests):
         requests.add("epoch", epoch, random.other_epoch(), secs, random.nanos())
 
 
+def add_sums_that_come_back(requests):
+    """The exact sum at, before and past the ends of i64, most with a partial sum that leaves it."""
+    targets = [end + step for end in (BOTTOM, TOP) for step in (-1, 0, 1)]
+    for epoch, target, far in product(OTHER_EPOCHS, targets, (BOTTOM, BOTTOM + 1, TOP)):
+        unix = target + epoch - far - 4
+        if BOTTOM <= unix <= TOP:
+            requests.add("unix", epoch, unix, 2**32 - 1, far)
+        secs = target - epoch + far
+        if BOTTOM <= secs <= TOP:
+            requests.add("to-unix", epoch, secs, 0, far)
+            requests.add("epoch", epoch, far, secs, 0)
+        secs = target - far + epoch
+        if BOTTOM <= secs <= TOP:
+            requests.add("epoch", far, epoch, secs, 0)
+
+
 def add_bad_nanos(requests):
     """Nanoseconds of 10^9 and more, alone and where the sum would be refused as well."""
     for nanos in BAD_NANOS:
@@ -138,6 +155,7 @@ def main(words):
     texts.add_all(requests)
     lines.add_all(requests)
     malformed.add_all(requests)
+    add_sums_that_come_back(requests)
     sys.stdout.buffer.write(b"".join(request + b"\n" for request in requests.lines))
 
 

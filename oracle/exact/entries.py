@@ -30,7 +30,7 @@ class Refused(Exception):
         return " ".join(words + [NAMES[self.number], *map(str, self.values)])
 
 
-# 01, "Counts and durations".
+# 01, "Counts and durations", and 02, ask 5.
 
 
 def within(number, limits, refusal):
@@ -64,23 +64,28 @@ def date_time(epoch, year, month, day, hour, minute, second, nano):
     return within(count - epoch, I64, 6), nano
 
 
+def whole_sum(*parts):
+    # 02, ask 5: the exact sum alone decides; 01 as it was asks each partial sum.
+    total = 0
+    for part in parts:
+        total += part
+        if not AMENDED:
+            within(total, I64, 10)
+    return within(total, I64, 10)
+
+
 def from_unix(epoch, secs, nanos, leap):
-    for part in (nanos // SECOND, leap, -epoch):
-        secs = within(secs + part, I64, 10)
-    return secs, nanos % SECOND
+    return whole_sum(secs, nanos // SECOND, leap, -epoch), nanos % SECOND
 
 
 def to_unix(epoch, secs, nanos, leap):
     good_nanos(nanos)
-    for part in (-leap, epoch):
-        secs = within(secs + part, I64, 10)
-    return (secs,)
+    return (whole_sum(secs, -leap, epoch),)
 
 
 def change_epoch(old, new_epoch, secs, nanos):
     good_nanos(nanos)
-    apart = within(old - new_epoch, I64, 10)
-    return within(apart + secs, I64, 10), nanos
+    return whole_sum(old, -new_epoch, secs), nanos
 
 
 def add(secs, nanos, duration_secs, duration_nanos, sign=1):

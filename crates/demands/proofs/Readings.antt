@@ -1,4 +1,4 @@
--- The readings of document 01 that are marked P, one table (specs/Readings.antt) and one claim about all its rows; and our own.
+-- The readings of document 01 that are marked P, one table (specs/Readings.antt) and one claim about all its rows; and others.
 use mir.Facts.{and-yes}
 use Rattle.demands.specs.Readings.{readings, AllHold}
 use Rattle.demands.specs.OurReadings.{ours}
@@ -8,6 +8,7 @@ use Rattle.demands.proofs.ReadingsTest.{allPass, all-hold, all-pass}
 pub every-reading : AllHold readings
 every-reading = all-hold readings (and-yes (allPass readings) (allPass ours) all-pass .0)
 
--- So do ours: each named epoch starts as it should, and the latest timestamp and one of the longest texts are printed so.
+-- So do ours: each named epoch starts as it should, the latest timestamp and one of the longest texts are printed so, and what
+-- leaves i64 on the way and comes back is answered (02, ask 5).
 pub our-readings : AllHold ours
 our-readings = all-hold ours (and-yes (allPass readings) (allPass ours) all-pass .1)

@@ -12,7 +12,7 @@ use Rattle.integers.specs.Integers.{isI64, floorDiv, floorMod}
 use Rattle.calendar.specs.Walk.{divides, isLeap, monthRow, monthLength}
 use Rattle.calendar.specs.Closed.{leapYears, yearStart, sumTo, dayOfYear, dayNumber}
 use Rattle.moments.specs.Moments.{secondOfDay, secondsOf}
-use Rattle.counts.specs.Counts.{dateTimeSecs, fromDateTime, exact, timeAt, added}
+use Rattle.counts.specs.Counts.{dateTimeSecs, fromDateTime, fromUnix, overEpoch, exact, timeAt, added}
 use Rattle.decimals.specs.Numbers.{beginsWith, isDigit, allDigits, decimalAfter, number}
 use Rattle.fields.specs.Fields as Fields
 use Rattle.stages.specs.Text as Text
@@ -31,7 +31,7 @@ use Rattle.printer.specs.Lent.{answer, lineAfter}
 use Rattle.printer.specs.Display.{instant, timeText, displayed}
 use Rattle.demands.specs.Values.{moment}
 use Rattle.texts.specs.Texts.{bytes}
-use Rattle.demands.specs.Readings.{Reading, prints, counts, reads, adds, Holds, AllHold, readings}
+use Rattle.demands.specs.Readings.{Reading, prints, counts, reads, adds, converts, moves, Holds, AllHold, readings}
 use Rattle.demands.specs.OurReadings.{ours}
 use Rattle.demands.proofs.DatesWalked.{accepted}
 
@@ -113,6 +113,8 @@ passes (prints epoch secs nanos said) = ltb nanos 1000000000 && printsAs epoch s
 passes (counts epoch year month day hour min sec nano said) = same (fromDateTime epoch year month day hour min sec nano) said
 passes (reads epoch said outcome) = same (readText yearLimit epoch (bytes said)) outcome
 passes (adds secs nanos dsecs dnanos said) = same (added secs nanos dsecs dnanos) said
+passes (converts epoch unix nanos leap said) = same (fromUnix epoch unix nanos leap) said
+passes (moves old new secs nanos said) = same (overEpoch old new secs nanos) said
 
 -- ---- a row that passes holds
 text-of : (epoch secs : ℤ) (nanos : ℕ) (said : List ℕ) (p : Parsed) → T (printsAs epoch secs nanos said p) → timeText secs nanos epoch Default ≡ said
@@ -136,6 +138,8 @@ holds (prints epoch secs nanos said) t =
 holds (counts epoch year month day hour min sec nano said) t = same-outcome (fromDateTime epoch year month day hour min sec nano) said t
 holds (reads epoch said outcome) t = same-outcome (readText yearLimit epoch (bytes said)) outcome t
 holds (adds secs nanos dsecs dnanos said) t = same-outcome (added secs nanos dsecs dnanos) said t
+holds (converts epoch unix nanos leap said) t = same-outcome (fromUnix epoch unix nanos leap) said t
+holds (moves old new secs nanos said) t = same-outcome (overEpoch old new secs nanos) said t
 
 -- ---- the whole table by one test
 abbrev pub allPass : List Reading → Bool
@@ -146,7 +150,7 @@ pub all-hold : (rows : List Reading) → T (allPass rows) → AllHold rows
 all-hold [] t = tt
 all-hold (r ∷ rows) t = let b = and-yes (passes r) (allPass rows) t in (holds r (b .0), all-hold rows (b .1))
 
--- EVERY ROW PASSES, as the prover computes it: those of document 01, and our own
+-- EVERY ROW PASSES, as the prover computes it: those marked P, and the others
 pub all-pass : T (allPass readings && allPass ours)
-unfolding isI64 floorDiv floorMod divides isLeap monthRow monthLength leapYears yearStart sumTo dayOfYear dayNumber secondOfDay secondsOf dateTimeSecs fromDateTime exact timeAt added beginsWith isDigit allDigits decimalAfter number Fields.isDelimiter Fields.width Fields.twoDigits Fields.nanoseconds Fields.fraction Fields.seconds Text.field Text.fromMonth Text.fromYear Text.withoutSign Text.parsed readText Digits.digits Digits.widthFrom Digits.width Parts.yearText Parts.trim Parts.fractionText Printed.fieldsText Printed.text
+unfolding isI64 floorDiv floorMod divides isLeap monthRow monthLength leapYears yearStart sumTo dayOfYear dayNumber secondOfDay secondsOf dateTimeSecs fromDateTime fromUnix overEpoch exact timeAt added beginsWith isDigit allDigits decimalAfter number Fields.isDelimiter Fields.width Fields.twoDigits Fields.nanoseconds Fields.fraction Fields.seconds Text.field Text.fromMonth Text.fromYear Text.withoutSign Text.parsed readText Digits.digits Digits.widthFrom Digits.width Parts.yearText Parts.trim Parts.fractionText Printed.fieldsText Printed.text
 all-pass = tt

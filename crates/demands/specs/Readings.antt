@@ -5,7 +5,7 @@ use Prim.Native.Nat.{ℕ}
 use Prim.Native.String.{String}
 use lib.IntN.{ℤ, pos, negℤ}
 use Rattle.errors.specs.Refusals.{Outcome, gives, refuses, refusal}
-use Rattle.counts.specs.Counts.{fromDateTime, added}
+use Rattle.counts.specs.Counts.{fromDateTime, fromUnix, overEpoch, added}
 use Rattle.counts.specs.Constants.{earliest, latest}
 use Rattle.reader.specs.Stamp.{readText, yearLimit}
 use Rattle.printed_parts.specs.declared.Precision.the-variants.{Default}
@@ -22,6 +22,10 @@ pub data Reading : Type 0 where
   reads : ℤ → String → Outcome (ℤ × ℕ) → Reading
   -- seconds and nanoseconds, those of a duration, and their sum
   adds : ℤ → ℕ → ℕ → ℕ → Outcome (ℤ × ℕ) → Reading
+  -- epoch, Unix seconds and nanoseconds, leap offset, and their timestamp
+  converts : ℤ → ℤ → ℕ → ℤ → Outcome (ℤ × ℕ) → Reading
+  -- old and new epoch, seconds and nanoseconds, and those over the new one
+  moves : ℤ → ℤ → ℤ → ℕ → Outcome (ℤ × ℕ) → Reading
 
 -- the entry says what the row says; printing does, for every line and place in it
 abbrev pub Holds : Reading → Type 0
@@ -30,6 +34,8 @@ Holds (prints epoch secs nanos text) =
 Holds (counts epoch year month day hour min sec nano said) = fromDateTime epoch year month day hour min sec nano ≡ said
 Holds (reads epoch text said) = readText yearLimit epoch (bytes text) ≡ said
 Holds (adds secs nanos dsecs dnanos said) = added secs nanos dsecs dnanos ≡ said
+Holds (converts epoch unix nanos leap said) = fromUnix epoch unix nanos leap ≡ said
+Holds (moves old new secs nanos said) = overEpoch old new secs nanos ≡ said
 
 -- every row of a table holds
 abbrev pub AllHold : List Reading → Type 0

@@ -57,6 +57,10 @@ fn unix(secs: i64, nanos: u32, leap: i64) {
     told(TaiTime::try_from_unix_timestamp(Epoch(0), UnixSeconds(secs), nanos, LeapOffset(leap)));
 }
 
+fn moved(old: i64, new: i64, secs: i64) {
+    told(TaiTime { secs, nanos: 0 }.to_tai_time(Epoch(old), Epoch(new)));
+}
+
 fn read(text: &[u8]) {
     match reader::from_str(text, Epoch(0)) {
         ReadAnswer::At(t) => show(t, Precision::Default),
@@ -91,6 +95,7 @@ fn constants() {
 fn main() {
     unix(0, 4294967295, 0);
     unix(9223372036854775807, 1000000000, -1);
+    moved(-9223372036854775808, 1, 5);
     read(b"2020-+5-01T00:00:00");
     read(b"++2020-01-01 00:00:00");
     read(b"");

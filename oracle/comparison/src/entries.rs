@@ -45,28 +45,45 @@ pub fn try_from_date_time(tally: &mut Tally, epoch: i64, date: DateTime) {
 }
 
 pub fn try_from_unix_timestamp(tally: &mut Tally, epoch: i64, secs: i64, nanos: u32, leap: i64) {
-    let rust = encode::time(oracle::try_from_unix_timestamp(epoch, secs, nanos, leap));
+    let rust = oracle::try_from_unix_timestamp(epoch, secs, nanos, leap);
+    let exact = oracle::exact_from_unix(epoch, secs, nanos, leap);
+    let wanted = encode::time(or_exact(tally, Split::UnixSum, rust, exact));
     let (over, unix, offset) = (Epoch(epoch), UnixSeconds(secs), LeapOffset(leap));
     let port = port::tai_try_from_unix_timestamp(over, unix, nanos, offset);
-    tally.hold(Entry::TryFromUnixTimestamp, rust, port, || {
+    tally.hold(Entry::TryFromUnixTimestamp, wanted, port, || {
         format!("unix {epoch} {secs} {nanos} {leap}")
     });
 }
 
 pub fn as_unix_secs(tally: &mut Tally, epoch: i64, stamp: Timestamp, leap: i64) {
-    let rust = encode::unix(oracle::as_unix_secs(epoch, stamp, leap));
+    let rust = oracle::as_unix_secs(epoch, stamp, leap);
+    let exact = oracle::exact_to_unix(epoch, stamp.secs, leap);
+    let wanted = encode::unix(or_exact(tally, Split::ToUnixSum, rust, exact));
     let port = port::tai_as_unix_secs(Epoch(epoch), stamp.secs, stamp.nanos, LeapOffset(leap));
-    tally.hold(Entry::AsUnixSecs, rust, port, || {
+    tally.hold(Entry::AsUnixSecs, wanted, port, || {
         format!("to-unix {epoch} {stamp} {leap}")
     });
 }
 
 pub fn to_tai_time(tally: &mut Tally, from: i64, to: i64, stamp: Timestamp) {
-    let rust = encode::time(oracle::to_tai_time(from, to, stamp));
+    let rust = oracle::to_tai_time(from, to, stamp);
+    let exact = oracle::exact_over_epoch(from, to, stamp);
+    let wanted = encode::time(or_exact(tally, Split::EpochSum, rust, exact));
     let port = port::tai_to_tai_time(Epoch(from), Epoch(to), stamp.secs, stamp.nanos);
-    tally.hold(Entry::ToTaiTime, rust, port, || {
+    tally.hold(Entry::ToTaiTime, wanted, port, || {
         format!("epoch {from} {to} {stamp}")
     });
+}
+
+/// Where the Rust refuses a conversion, the port is held against 02: the exact sum decides.
+fn or_exact<T>(tally: &mut Tally, split: Split, rust: Answer<T>, exact: Answer<T>) -> Answer<T> {
+    let Answer::Refused(_) = rust else {
+        return rust;
+    };
+    if let Answer::Value(_) = exact {
+        tally.add_split(split);
+    }
+    exact
 }
 
 pub fn checked_add(tally: &mut Tally, stamp: Timestamp, duration: Duration) {

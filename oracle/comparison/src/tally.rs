@@ -45,13 +45,19 @@ pub enum Split {
     FullSecond,
     PlusAccepted,
     PlusRefused,
+    UnixSum,
+    ToUnixSum,
+    EpochSum,
 }
 
 /// What is said of each [`Split`], in its order.
-pub const SPLITS: [&str; 3] = [
+pub const SPLITS: [&str; 6] = [
     "nano 1000000000 among fields, refused (5)",
     "a + inside a field, accepted by the Rust, refused (9)",
     "a + inside a field, refused by the Rust with another number, refused (9)",
+    "Unix to timestamp, refused by the Rust for a partial sum, answered",
+    "timestamp to Unix, refused by the Rust for a partial sum, answered",
+    "a change of epoch, refused by the Rust for a partial sum, answered",
 ];
 
 /// How many differences are shown with their inputs.

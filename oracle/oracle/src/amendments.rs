@@ -1,5 +1,33 @@
 //! Where document 02 decides against the Rust: the comparison holds the port to it there.
 
+use crate::entries::representable;
+use crate::{Answer, Timestamp};
+
+/// Unix to timestamp by its exact sum (02, ask 5).
+pub fn exact_from_unix(epoch: i64, secs: i64, nanos: u32, leap_secs: i64) -> Answer<Timestamp> {
+    let carry = i128::from(nanos / 1_000_000_000);
+    let sum = i128::from(secs) + carry + i128::from(leap_secs) - i128::from(epoch);
+    within_i64(sum).map(|secs| Timestamp {
+        secs,
+        nanos: nanos % 1_000_000_000,
+    })
+}
+
+/// Timestamp to Unix by its exact sum (02, ask 5).
+pub fn exact_to_unix(epoch: i64, secs: i64, leap_secs: i64) -> Answer<i64> {
+    within_i64(i128::from(secs) - i128::from(leap_secs) + i128::from(epoch))
+}
+
+/// The change of epoch by its exact sum (02, ask 5).
+pub fn exact_over_epoch(from: i64, to: i64, stamp: Timestamp) -> Answer<Timestamp> {
+    let sum = i128::from(from) - i128::from(to) + i128::from(stamp.secs);
+    within_i64(sum).map(|secs| Timestamp { secs, ..stamp })
+}
+
+fn within_i64(sum: i128) -> Answer<i64> {
+    representable(i64::try_from(sum).ok())
+}
+
 /// Whether reading reaches a field of the right width that holds a `+`, which is refused (9) whatever the Rust says
 /// (02, ask 3).
 ///

@@ -170,7 +170,7 @@ fn duration_of(duration: Duration) -> Option<RustDuration> {
 }
 
 /// The Rust's `None` is 01's NotRepresentable.
-fn representable<T>(result: Option<T>) -> Answer<T> {
+pub(crate) fn representable<T>(result: Option<T>) -> Answer<T> {
     match result {
         Some(value) => Answer::Value(value),
         None => Answer::Refused(Refusal::NotRepresentable),

@@ -37,7 +37,12 @@ pub const READINGS: &[(&str, &str)] = &[
     ("unix 0 0 4294967295 0", "ok 4 294967295"),
     (
         "unix 0 9223372036854775807 1000000000 -1",
-        "refused 10 NotRepresentable",
+        "ok 9223372036854775807 0",
+    ),
+    // 02, ask 5: over epoch i64 bottom, second 5 moved to epoch 1 is bottom plus 4.
+    (
+        "epoch -9223372036854775808 1 5 0",
+        "ok -9223372036854775804 0",
     ),
     ("read 0 2020-+5-01T00:00:00", "refused 9 InvalidFieldValue"),
     (
@@ -82,6 +87,14 @@ pub const READINGS: &[(&str, &str)] = &[
 
 /// What 01 stated before 02 amended it, and the Rust answers still.
 pub const BEFORE_02: &[(&str, &str)] = &[
+    (
+        "unix 0 9223372036854775807 1000000000 -1",
+        "refused 10 NotRepresentable",
+    ),
+    (
+        "epoch -9223372036854775808 1 5 0",
+        "refused 10 NotRepresentable",
+    ),
     ("read 0 2020-+5-01T00:00:00", "ok 1588291200 0"),
     // 01 says "accepted"; the value is that of 2020-01-01.
     ("read 0 ++2020-01-01 00:00:00", "ok 1577836800 0"),
