@@ -48,6 +48,41 @@ pub fn checked_sub(a: i64, b: i64) -> Checked
     Checked::Exact(a - b)
 }
 
+// x + 2^63, which turns every i64 into a u64 and keeps the order.
+fn raised(x: i64) -> u64
+    ensures { λ r. ⌜ pos r ≡ x +ℤ pos (2 ^ 63) ⌝ }
+{
+    if x < 0 {
+        return (x - LOW) as u64;
+    }
+    9223372036854775808 + (x as u64)
+}
+
+// x - 2^63, the way back.
+fn lowered(x: u64) -> i64
+    ensures { λ r. ⌜ r ≡ pos x -ℤ pos (2 ^ 63) ⌝ }
+{
+    if x < 9223372036854775808 {
+        return LOW + (x as i64);
+    }
+    (x - 9223372036854775808) as i64
+}
+
+// a + more + b - less, decided on the exact sum: what leaves on the way comes back if it carries as often as it borrows.
+pub fn checked_sum(a: i64, more: u64, b: i64, less: i64) -> Checked
+    ensures { λ r. ⌜ r ≡ checked (a +ℤ pos more +ℤ b -ℤ less) ⌝ }
+{
+    let first = raised(a);
+    let last = raised(less);
+    let two = std::num::wrapping_add_u64(first, more);
+    let three = std::num::wrapping_add_u64(two, raised(b));
+    let carries = (two < first) as u64 + (three < two) as u64;
+    if carries == (three < last) as u64 {
+        return Checked::Exact(lowered(std::num::wrapping_sub_u64(three, last)));
+    }
+    Checked::Outside
+}
+
 // -1 - x, which turns a number below 0 into one that a u64 holds.
 fn complement(x: i64) -> u64
     requires { ⌜ x <ℤ pos 0 ⌝ }
@@ -153,41 +188,6 @@ pub fn sub_parts(a: Parts, b: Parts, divisor: u64) -> Parts
         quotient: quotient - 1,
         rest: a.rest + divisor - b.rest,
     }
-}
-
-// x + 2^63, which turns every i64 into a u64 and keeps the order.
-fn raised(x: i64) -> u64
-    ensures { λ r. ⌜ pos r ≡ x +ℤ pos (2 ^ 63) ⌝ }
-{
-    if x < 0 {
-        return (x - LOW) as u64;
-    }
-    9223372036854775808 + (x as u64)
-}
-
-// x - 2^63, the way back.
-fn lowered(x: u64) -> i64
-    ensures { λ r. ⌜ r ≡ pos x -ℤ pos (2 ^ 63) ⌝ }
-{
-    if x < 9223372036854775808 {
-        return LOW + (x as i64);
-    }
-    (x - 9223372036854775808) as i64
-}
-
-// a + more + b - less, decided on the exact sum: what leaves on the way comes back if it carries as often as it borrows.
-pub fn checked_sum(a: i64, more: u64, b: i64, less: i64) -> Checked
-    ensures { λ r. ⌜ r ≡ checked (a +ℤ pos more +ℤ b -ℤ less) ⌝ }
-{
-    let first = raised(a);
-    let last = raised(less);
-    let two = std::num::wrapping_add_u64(first, more);
-    let three = std::num::wrapping_add_u64(two, raised(b));
-    let carries = (two < first) as u64 + (three < two) as u64;
-    if carries == (three < last) as u64 {
-        return Checked::Exact(lowered(std::num::wrapping_sub_u64(three, last)));
-    }
-    Checked::Outside
 }
 
 // The 64 bits of a number in two's complement.

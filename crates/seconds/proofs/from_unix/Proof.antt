@@ -1,7 +1,6 @@
 -- `seconds::from_unix`: the call tells whether the exact sum is an i64.
 use mathlib.Core.Path.{_≡_, ap, _∙_}
 use Prim.Native.Nat.{_/_, _%_}
-use native.Mathlib.Omega.{arith}
 use lib.IntN.{pos, _+ℤ_, _-ℤ_}
 use mir.Facts.{toZ-ofZ}
 use mir.Syntax.{w64}
