@@ -92,16 +92,16 @@ tai_time_result tai_new(int64_t secs, uint32_t nanos);
 tai_time_result tai_try_from_date_time(tai_epoch epoch, int32_t year, uint8_t month, uint8_t day, uint8_t hour,
                                        uint8_t min, uint8_t sec, uint32_t nano);
 
-/* The count of a Unix time; whole seconds in the nanoseconds are carried. Refuses 10 where secs + carry, that + leap, or
- * that - epoch leaves int64_t. */
+/* The count of a Unix time; whole seconds in the nanoseconds are carried. Refuses 10 where secs + carry + leap - epoch
+ * leaves int64_t: the exact sum decides, here and in the next two, whatever comes on the way. */
 tai_time_result tai_try_from_unix_timestamp(tai_epoch epoch, tai_unix_seconds secs, uint32_t nanos,
                                             tai_leap_offset leap);
 
-/* The Unix seconds of a count. Refuses 11, then 10 where secs - leap, or that + epoch, leaves int64_t. */
+/* The Unix seconds of a count. Refuses 11, then 10 where secs - leap + epoch leaves int64_t. */
 tai_unix_result tai_as_unix_secs(tai_epoch epoch, int64_t secs, uint32_t nanos, tai_leap_offset leap);
 
-/* The count of the same moment over the new epoch. Refuses 11, then 10 where old_epoch - new_epoch, or that + secs,
- * leaves int64_t. */
+/* The count of the same moment over the new epoch. Refuses 11, then 10 where old_epoch - new_epoch + secs leaves
+ * int64_t. */
 tai_time_result tai_to_tai_time(tai_epoch old_epoch, tai_epoch new_epoch, int64_t secs, uint32_t nanos);
 
 /* A duration later, and earlier. Both refuse 11, of the count or of the duration, then 10 where no count lies there. */

@@ -69,18 +69,21 @@ static void counts_of_fields(void) {
 
 static void conversions(void) {
     const tai_unix_seconds unix_time = {1700000000}, latest = {INT64_MAX};
-    const tai_leap_offset leap = {37}, back = {-1};
+    const tai_leap_offset leap = {37}, none = {0}, ahead = {1}, back = {-1};
 
     HOLD(gives(tai_try_from_unix_timestamp(TAI_EPOCH_GPS, unix_time, UINT32_MAX, leap), 1384035222, 294967295));
-    HOLD(refuses(tai_try_from_unix_timestamp(zero, latest, too_many, back), TAI_NOT_REPRESENTABLE, 0));
+    HOLD(gives(tai_try_from_unix_timestamp(zero, latest, too_many, back), INT64_MAX, 0));
+    HOLD(refuses(tai_try_from_unix_timestamp(zero, latest, too_many, none), TAI_NOT_REPRESENTABLE, 0));
 
     HOLD(is_unix(tai_as_unix_secs(TAI_EPOCH_GPS, 1384035218, 5, leap), TAI_ACCEPTED, 1700000000));
+    HOLD(is_unix(tai_as_unix_secs(one, INT64_MIN, 5, ahead), TAI_ACCEPTED, INT64_MIN));
     HOLD(is_unix(tai_as_unix_secs(one, INT64_MAX, too_many, leap), TAI_BAD_NANOS, 0));
     HOLD(is_unix(tai_as_unix_secs(zero, INT64_MAX, 5, back), TAI_NOT_REPRESENTABLE, 0));
 
     HOLD(gives(tai_to_tai_time(TAI_EPOCH_GPS, zero, 5, 7), 315964824, 7));
     HOLD(refuses(tai_to_tai_time(bottom, one, 5, too_many), TAI_BAD_NANOS, 0));
-    HOLD(refuses(tai_to_tai_time(bottom, one, 5, 7), TAI_NOT_REPRESENTABLE, 0));
+    HOLD(gives(tai_to_tai_time(bottom, one, 5, 7), INT64_MIN + 4, 7));
+    HOLD(refuses(tai_to_tai_time(bottom, one, 0, 7), TAI_NOT_REPRESENTABLE, 0));
 }
 
 static void durations(void) {

@@ -100,7 +100,8 @@ impl Count {
     ///
     /// # Errors
     ///
-    /// A sum on the way (carry, then leap seconds, then epoch) leaves `i64`.
+    /// The exact sum, seconds plus carry plus leap seconds minus epoch, leaves `i64`. (tai-time refuses for a partial sum
+    /// too.)
     ///
     /// ```
     /// use admezgast::{Count, Epoch, LeapOffset, UnixSeconds};
@@ -132,7 +133,15 @@ impl Count {
         .ok_or(OutOfRangeError(()))
     }
 
-    /// The Unix seconds; `None` where a sum on the way (leap seconds, then epoch) leaves `i64`.
+    /// The Unix seconds; `None` where the exact sum, seconds minus leap seconds plus epoch, leaves `i64`. (tai-time refuses
+    /// for a partial sum too.)
+    ///
+    /// ```
+    /// use admezgast::{Count, Epoch, LeapOffset, UnixSeconds};
+    ///
+    /// let unix = Count::MIN.as_unix_secs(Epoch(1), LeapOffset(1));
+    /// assert_eq!(unix, Some(UnixSeconds(i64::MIN)));
+    /// ```
     #[must_use]
     pub fn as_unix_secs(self, epoch: Epoch, leap: LeapOffset) -> Option<UnixSeconds> {
         unless(
@@ -142,8 +151,16 @@ impl Count {
         )
     }
 
-    /// The count of the same moment over another epoch; `None` where a sum on the way (old minus new, then the seconds)
-    /// leaves `i64`. It is tai-time's `to_tai_time`.
+    /// The count of the same moment over another epoch; `None` where there is none: the exact sum, old epoch minus new plus
+    /// seconds, leaves `i64`. It is tai-time's `to_tai_time`, which refuses for a partial sum too.
+    ///
+    /// ```
+    /// use admezgast::{Count, Epoch};
+    ///
+    /// let count = Count::new(5, 0).unwrap();
+    /// let moved = count.change_epoch(Epoch(i64::MIN), Epoch(1));
+    /// assert_eq!(moved, Count::new(i64::MIN + 4, 0));
+    /// ```
     #[must_use]
     pub fn change_epoch(self, old: Epoch, new: Epoch) -> Option<Self> {
         unless(

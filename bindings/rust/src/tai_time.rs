@@ -109,7 +109,8 @@ impl<const EPOCH_REF: i64> TaiTime<EPOCH_REF> {
     ///
     /// # Errors
     ///
-    /// A sum on the way (carry, then leap seconds, then epoch) leaves `i64`.
+    /// The exact sum, seconds plus carry plus leap seconds minus epoch, leaves `i64`. (tai-time refuses for a partial sum
+    /// too.)
     ///
     /// ```
     /// use admezgast::GpsTime;
@@ -150,8 +151,8 @@ impl<const EPOCH_REF: i64> TaiTime<EPOCH_REF> {
         self.nanos
     }
 
-    /// The Unix seconds; `leap_secs` is TAI minus UTC. `None` where a sum on the way (leap seconds, then epoch) leaves
-    /// `i64`.
+    /// The Unix seconds; `leap_secs` is TAI minus UTC. `None` where the exact sum, seconds minus leap seconds plus epoch,
+    /// leaves `i64`. (tai-time refuses for a partial sum too.)
     #[must_use]
     pub fn as_unix_secs(&self, leap_secs: i64) -> Option<i64> {
         self.count()
@@ -159,13 +160,16 @@ impl<const EPOCH_REF: i64> TaiTime<EPOCH_REF> {
             .map(|unix| unix.0)
     }
 
-    /// The same moment over another epoch; `None` where a sum on the way (this epoch minus the other, then the seconds)
-    /// leaves `i64`.
+    /// The same moment over another epoch; `None` where no timestamp lies there: the exact sum, this epoch minus the other
+    /// plus seconds, leaves `i64`. (tai-time refuses for a partial sum too.)
     ///
     /// ```
-    /// use admezgast::{GpsTime, MonotonicTime};
+    /// use admezgast::{GpsTime, MonotonicTime, TaiTime};
     ///
     /// assert_eq!(GpsTime::EPOCH.to_tai_time(), MonotonicTime::new(315_964_819, 0));
+    ///
+    /// let far = TaiTime::<{ i64::MIN }>::new(5, 0).unwrap();
+    /// assert_eq!(far.to_tai_time(), TaiTime::<1>::new(i64::MIN + 4, 0));
     /// ```
     #[must_use]
     pub fn to_tai_time<const OTHER_EPOCH_REF: i64>(&self) -> Option<TaiTime<OTHER_EPOCH_REF>> {

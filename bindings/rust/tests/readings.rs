@@ -175,7 +175,8 @@ fn conversions() {
     let unix = MonotonicTime::try_from_unix_timestamp;
     assert_eq!(unix(0, u32::MAX, 0), Ok(at(4, 294_967_295)));
     assert_eq!(unix(i64::MAX, 0, 0), Ok(at(i64::MAX, 0)));
-    assert!(unix(i64::MAX, 1_000_000_000, -1).is_err());
+    assert_eq!(unix(i64::MAX, 1_000_000_000, -1), Ok(at(i64::MAX, 0)));
+    assert!(unix(i64::MAX, 1_000_000_000, 0).is_err());
     let time = GpsTime::try_from_unix_timestamp(1_700_000_000, 0, 37).unwrap();
     assert_eq!(
         (time.as_secs(), time.as_unix_secs(37)),
@@ -196,10 +197,19 @@ fn conversions() {
     );
     assert_eq!(Count::MAX.as_unix_secs(gps, leap), None);
     assert_eq!(
+        Count::MIN.as_unix_secs(Epoch(1), LeapOffset(1)),
+        Some(UnixSeconds(i64::MIN))
+    );
+    assert_eq!(
         count(5, 7).change_epoch(gps, Epoch(0)),
         Some(count(315_964_824, 7))
     );
-    assert_eq!(count(5, 7).change_epoch(Epoch(i64::MIN), Epoch(1)), None);
+    let bottom = Epoch(i64::MIN);
+    assert_eq!(
+        count(5, 7).change_epoch(bottom, Epoch(1)),
+        Some(count(i64::MIN + 4, 7))
+    );
+    assert_eq!(count(0, 7).change_epoch(bottom, Epoch(1)), None);
 }
 
 #[test]

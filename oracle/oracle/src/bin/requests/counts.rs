@@ -58,7 +58,7 @@ fn add_unix(list: &mut List) {
     for nanos in ANY_NANOS {
         list.add("unix", &[0], format_args!("0 {nanos} 0"));
     }
-    // Sums that leave i64 and would come back with the epoch.
+    // Sums that leave i64 and come back with the epoch.
     for epoch in [BOTTOM, TOP] {
         for secs in FEW_SECS {
             for leap in FEW_SECS {
