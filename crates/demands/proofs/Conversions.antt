@@ -7,7 +7,7 @@ use mathlib.Core.Logic.{_↔_}
 use Prim.Native.Nat.{ℕ, _/_, _%_, _<_}
 use native.Mathlib.Omega.{arith}
 use lib.Dec.{ltb}
-use lib.IntN.{ℤ, pos, _+ℤ_, _-ℤ_}
+use lib.IntN.{ℤ, pos, _+ℤ_, _-ℤ_, +ℤ-comm}
 use borrow.Author.Tests.{lt-ltb, ltb-true}
 use Rattle.integers.specs.Integers.{isI64}
 use Rattle.integers.proofs.Signed.{plus≡, minus≡, eqZ, add-law, diff-law}
@@ -15,19 +15,21 @@ use Rattle.errors.specs.Refusals.{gives, refuses, refusal}
 use Rattle.errors.proofs.Outcomes.{gives-one, passed, refuses-not}
 use Rattle.moments.specs.Moments.{momentAt, secondsOf}
 use Rattle.moments.proofs.Moments.{seconds-moment}
+use Rattle.seconds.proofs.Checks.{in-turn}
 use Rattle.counts.specs.Counts.{representable, fromUnix, toUnix, overEpoch}
 use Rattle.demands.specs.Values.{I64, Timestamp, Reaches}
 use Rattle.demands.proofs.GivenWhen.{over-epoch-10-exactly}
 
+-- the only number that makes up the balance
+sum-is : (a less more r : ℤ) → (a -ℤ less +ℤ more ≡ r) ↔ (r +ℤ less ≡ more +ℤ a)
+sum-is a less more r =
+    let sum = add-law (a -ℤ less) more in
+    let difference = diff-law a less in
+    let left = add-law r less in
+    let right = add-law more a in
+    (λ e. eqZ _ _ (omega (arith, plus≡ e, minus≡ e)), λ e. eqZ _ _ (omega (arith, plus≡ e, minus≡ e)))
+
 -- ---- Change of epoch
--- the only count over the new epoch that reads as the same moment
-module _ (old new secs secs′ : ℤ) where
-  same-sum : old -ℤ new +ℤ secs ≡ secs′ → secs′ +ℤ new ≡ secs +ℤ old
-  same-sum e = eqZ _ _ (omega (arith, add-law (old -ℤ new) secs, diff-law old new, add-law secs′ new, add-law secs old, plus≡ e, minus≡ e))
-
-  only-sum : secs′ +ℤ new ≡ secs +ℤ old → old -ℤ new +ℤ secs ≡ secs′
-  only-sum e = eqZ _ _ (omega (arith, add-law (old -ℤ new) secs, diff-law old new, add-law secs′ new, add-law secs old, plus≡ e, minus≡ e))
-
 one-moment : {y z : ℤ} → momentAt y ≡ momentAt z → y ≡ z
 one-moment {y} {z} e = sym (seconds-moment y) ∙ ap secondsOf e ∙ seconds-moment z
 
@@ -44,10 +46,10 @@ module _ (old new secs : ℤ) (nanos : ℕ) where
           let p = passed _ (refusal 11 []) _ e in
           let q = passed _ (refusal 10 []) _ (p .1) in
           let m = ap (λ x. x .0) (gives-one (q .1)) in
-          (record { secs-fit = sym (ap isI64 m) ∙ q .0; walked = ap momentAt (same-sum old new secs secs′ m) }, sym (ap (λ x. x .1) (gives-one (q .1))), ltb-true nanos 1000000000 (p .0))
+          (record { secs-fit = sym (ap isI64 m) ∙ q .0; walked = ap momentAt (sum-is old new secs secs′ .0 m) }, sym (ap (λ x. x .1) (gives-one (q .1))), ltb-true nanos 1000000000 (p .0))
 
       back : Reaches new secs′ (momentAt (secs +ℤ old)) × (nanos′ ≡ nanos) × (nanos < 1000000000) → overEpoch old new secs nanos ≡ gives (secs′, nanos′)
-      back (r, e, n) = rw (lt-ltb nanos 1000000000 n, only-sum old new secs secs′ (one-moment (r .walked)), r .secs-fit, e)
+      back (r, e, n) = rw (lt-ltb nanos 1000000000 n, sum-is old new secs secs′ .1 (one-moment (r .walked)), r .secs-fit, e)
 
   -- It is refused with 10 exactly if no count over the new epoch reads so.
   pub not-moved : (overEpoch old new secs nanos ≡ refuses (refusal 10 [])) ↔ ((nanos < 1000000000) × ((secs′ : ℤ) → Reaches new secs′ (momentAt (secs +ℤ old)) → ⊥))
@@ -60,7 +62,7 @@ module _ (old new secs : ℤ) (nanos : ℕ) where
       there e = let n = over-epoch-10-exactly secs nanos old new .0 e .0 in (n, λ secs′ r. refuses-not (sym e ∙ moved-exactly secs′ nanos .1 (r, refl, n)))
 
       go : ((secs′ : ℤ) → Reaches new secs′ (momentAt (secs +ℤ old)) → ⊥) → (b : Bool) → isI64 moved ≡ b → isI64 moved ≡ false
-      go f true e = absurd (f moved (record { secs-fit = e; walked = ap momentAt (same-sum old new secs moved refl) }))
+      go f true e = absurd (f moved (record { secs-fit = e; walked = ap momentAt (sum-is old new secs moved .0 refl) }))
       go f false e = e
 
 -- There and back gives the timestamp again.
@@ -70,14 +72,18 @@ moved-back old new {secs} {secs′} {nanos} {nanos′} t e =
     moved-exactly new old secs′ nanos′ secs nanos .1 (record { secs-fit = t .secs-fit; walked = sym (r .walked) }, sym n, rw n h)
 
 -- ---- Unix seconds
-module _ (epoch leap secs unix : ℤ) (nanos : ℕ) (h : nanos < 1000000000) where
-  timestamp-sum : secs -ℤ leap +ℤ epoch ≡ unix → unix +ℤ pos (nanos / 1000000000) +ℤ leap -ℤ epoch ≡ secs
-  timestamp-sum e = eqZ _ _
-      (omega (arith, diff-law (unix +ℤ pos (nanos / 1000000000) +ℤ leap) epoch, add-law (unix +ℤ pos (nanos / 1000000000)) leap, add-law unix (pos (nanos / 1000000000)), add-law (secs -ℤ leap) epoch, diff-law secs leap, plus≡ e, minus≡ e))
+-- with no whole second in the nanoseconds, a timestamp's Unix seconds and their timestamp are one balance
+unix-is : (epoch leap secs unix : ℤ) (nanos : ℕ) → nanos < 1000000000 → (secs -ℤ leap +ℤ epoch ≡ unix) ↔ (unix +ℤ pos (nanos / 1000000000) +ℤ leap -ℤ epoch ≡ secs)
+unix-is epoch leap secs unix nanos h = (
+  λ e. carried ∙ sum-is unix epoch leap secs .1 (turned unix leap epoch secs (sum-is secs leap epoch unix .0 e)),
+  λ e. sum-is secs leap epoch unix .1 (turned secs epoch leap unix (sum-is unix epoch leap secs .0 (sym carried ∙ e))),
+)
+  where
+    carried : unix +ℤ pos (nanos / 1000000000) +ℤ leap -ℤ epoch ≡ unix -ℤ epoch +ℤ leap
+    carried = let none : nanos / 1000000000 ≡ 0 = omega arith in ap (λ n. unix +ℤ pos n +ℤ leap -ℤ epoch) none ∙ in-turn unix leap epoch
 
-  unix-sum : unix +ℤ pos (nanos / 1000000000) +ℤ leap -ℤ epoch ≡ secs → secs -ℤ leap +ℤ epoch ≡ unix
-  unix-sum e = eqZ _ _
-      (omega (arith, diff-law (unix +ℤ pos (nanos / 1000000000) +ℤ leap) epoch, add-law (unix +ℤ pos (nanos / 1000000000)) leap, add-law unix (pos (nanos / 1000000000)), add-law (secs -ℤ leap) epoch, diff-law secs leap, plus≡ e, minus≡ e))
+    turned : (w x y z : ℤ) → w +ℤ x ≡ y +ℤ z → z +ℤ y ≡ x +ℤ w
+    turned w x y z e = +ℤ-comm z y ∙ sym e ∙ +ℤ-comm w x
 
 module _ (epoch leap : ℤ) {secs unix : ℤ} {nanos : ℕ} where
   -- A timestamp comes back from its Unix seconds with the same leap offset,
@@ -87,12 +93,13 @@ module _ (epoch leap : ℤ) {secs unix : ℤ} {nanos : ℕ} where
       let p = passed (ltb nanos 1000000000) (refusal 11 []) (representable (secs -ℤ leap +ℤ epoch) (gives (secs -ℤ leap +ℤ epoch))) e in
       let q = gives-one (passed (isI64 (secs -ℤ leap +ℤ epoch)) (refusal 10 []) (gives (secs -ℤ leap +ℤ epoch)) (p .1) .1) in
       let r : nanos % 1000000000 ≡ nanos = omega (arith, t .nanos-to) in
-      rw (timestamp-sum epoch leap secs unix nanos (t .nanos-to) q, r, t .secs-fit)
+      rw (unix-is epoch leap secs unix nanos (t .nanos-to) .0 q, r, t .secs-fit)
 
-  -- and so do Unix seconds from their timestamp.
-  pub back-to-unix : I64 unix → nanos < 1000000000 → fromUnix epoch unix nanos leap ≡ gives (secs, nanos) → toUnix epoch secs nanos leap ≡ gives unix
+  -- and so do Unix seconds with no whole second in their nanoseconds from their timestamp.
+  pub back-to-unix : I64 unix → nanos < 1000000000 → {nanos′ : ℕ} → fromUnix epoch unix nanos leap ≡ gives (secs, nanos′) → toUnix epoch secs nanos′ leap ≡ gives unix
   unfolding toUnix fromUnix
-  back-to-unix u n e =
+  back-to-unix u n {nanos′} e =
       let sum = unix +ℤ pos (nanos / 1000000000) +ℤ leap -ℤ epoch in
       let q = gives-one (passed (isI64 sum) (refusal 10 []) (gives (sum, nanos % 1000000000)) e .1) in
-      rw (lt-ltb nanos 1000000000 n, unix-sum epoch leap secs unix nanos n (ap (λ x. x .0) q), u)
+      let r : nanos′ < 1000000000 = omega (arith, ap (λ x. x .1) q) in
+      rw (lt-ltb nanos′ 1000000000 r, unix-is epoch leap secs unix nanos n .1 (ap (λ x. x .0) q), u)

@@ -1,4 +1,5 @@
--- What a new timestamp and a change of reference answer: document 01's checks in its order ("Counts and durations", "When the box says no"), in exact integers.
+-- What a new timestamp and a change of reference answer: document 01's checks in its order ("Counts and durations", "When the
+-- box says no"), in exact integers; a sum is asked for its result alone (02, ask 5).
 use mathlib.Core.List.{[]}
 use Prim.Native.Nat.{ℕ, _/_, _%_}
 use lib.Dec.{ltb}
@@ -16,7 +17,7 @@ goodNanos nanos rest = check (ltb nanos 1000000000) (refusal 11 []) rest
 unfoldable pub newTime : ℤ → ℕ → Outcome (ℤ × ℕ)
 newTime secs nanos = goodNanos nanos (gives (secs, nanos))
 
--- Unix to timestamp: whole seconds in the nanoseconds are carried; the exact sum must be an i64
+-- Unix to timestamp: whole seconds in the nanoseconds are carried
 unfoldable pub fromUnix : ℤ → ℤ → ℕ → ℤ → Outcome (ℤ × ℕ)
 fromUnix epoch unix nanos leap = representable secs (gives (secs, nanos % 1000000000))
   where

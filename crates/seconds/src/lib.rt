@@ -1,4 +1,4 @@
-// Counts from one reference to another, refused only for the exact result: the Rust refuses for a partial sum.
+// Counts from one reference to another, refused for the exact result alone: the Rust refuses for a partial sum too.
 use errors::CountError;
 use integers::Checked;
 use integers::checked_sum;
