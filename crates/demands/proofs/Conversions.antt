@@ -13,11 +13,11 @@ use Rattle.integers.specs.Integers.{isI64}
 use Rattle.integers.proofs.Signed.{plus≡, minus≡, eqZ, add-law, diff-law}
 use Rattle.errors.specs.Refusals.{gives, refuses, refusal}
 use Rattle.errors.proofs.Outcomes.{gives-one, passed, refuses-not}
-use Rattle.moments.specs.Moments.{momentAt, secondsOf}
-use Rattle.moments.proofs.Moments.{seconds-moment}
+use Rattle.moments.specs.Moments.{momentAt}
 use Rattle.seconds.proofs.Checks.{in-turn}
 use Rattle.counts.specs.Counts.{representable, fromUnix, toUnix, overEpoch}
 use Rattle.demands.specs.Values.{I64, Timestamp, Reaches}
+use Rattle.demands.proofs.DatesWalked.{one-moment}
 use Rattle.demands.proofs.GivenWhen.{over-epoch-10-exactly}
 
 -- the only number that makes up the balance
@@ -30,9 +30,6 @@ sum-is a less more r =
     (λ e. eqZ _ _ (omega (arith, plus≡ e, minus≡ e)), λ e. eqZ _ _ (omega (arith, plus≡ e, minus≡ e)))
 
 -- ---- Change of epoch
-one-moment : {y z : ℤ} → momentAt y ≡ momentAt z → y ≡ z
-one-moment {y} {z} e = sym (seconds-moment y) ∙ ap secondsOf e ∙ seconds-moment z
-
 module _ (old new secs : ℤ) (nanos : ℕ) where
   -- A timestamp is moved to a count over the new epoch exactly if that count is an i64 and, by the walk, reads as the same
   -- moment; the nanoseconds stay.

@@ -20,9 +20,12 @@ use Rattle.demands.specs.Values.{moment, Reaches}
 use Rattle.demands.proofs.Passed.{with-nanos}
 
 -- ---- the only count
+pub one-moment : {y z : ℤ} → momentAt y ≡ momentAt z → y ≡ z
+one-moment {y} {z} e = sym (seconds-moment y) ∙ ap secondsOf e ∙ seconds-moment z
+
 pub one-count : {epoch a b : ℤ} {m : Moment} → Reaches epoch a m → Reaches epoch b m → a ≡ b
-one-count {epoch} {a} {b} {m} p q =
-    sym (+ℤ-negℤ-cancel a epoch) ∙ ap (λ z. z -ℤ epoch) (sym (seconds-moment (a +ℤ epoch)) ∙ ap secondsOf (p .walked ∙ sym (q .walked)) ∙ seconds-moment (b +ℤ epoch)) ∙ +ℤ-negℤ-cancel b epoch
+one-count {epoch} {a} {b} p q =
+    sym (+ℤ-negℤ-cancel a epoch) ∙ ap (λ z. z -ℤ epoch) (one-moment (p .walked ∙ sym (q .walked))) ∙ +ℤ-negℤ-cancel b epoch
 
 -- the seconds of calendar fields, over an epoch
 abbrev count : ℤ → Moment → ℤ
