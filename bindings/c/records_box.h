@@ -97,7 +97,7 @@ tai_time_result tai_try_from_date_time(tai_epoch epoch, int32_t year, uint8_t mo
 tai_time_result tai_try_from_unix_timestamp(tai_epoch epoch, tai_unix_seconds secs, uint32_t nanos,
                                             tai_leap_offset leap);
 
-/* The Unix seconds of a count. Refuses 11, then 10 where secs - leap + epoch leaves int64_t. */
+/* The Unix seconds of a count, rounded down. Refuses 11, then 10 where secs - leap + epoch leaves int64_t. */
 tai_unix_result tai_as_unix_secs(tai_epoch epoch, int64_t secs, uint32_t nanos, tai_leap_offset leap);
 
 /* The count of the same moment over the new epoch. Refuses 11, then 10 where old_epoch - new_epoch + secs leaves

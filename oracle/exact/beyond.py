@@ -88,7 +88,7 @@ def add_sums_over_other_epochs(requests):
 
 
 def add_sums_that_come_back(requests):
-    """The exact sum at, before and past the ends of i64, most with a partial sum that leaves it."""
+    """The exact sum at, before and past the ends of i64, with and without a partial sum that leaves it."""
     targets = [end + step for end in (BOTTOM, TOP) for step in (-1, 0, 1)]
     for epoch, target, far in product(OTHER_EPOCHS, targets, (BOTTOM, BOTTOM + 1, TOP)):
         unix = target + epoch - far - 4

@@ -100,8 +100,8 @@ impl Count {
     ///
     /// # Errors
     ///
-    /// The exact sum, seconds plus carry plus leap seconds minus epoch, leaves `i64`. (tai-time refuses for a partial sum
-    /// too.)
+    /// `secs + carry + leap - epoch` leaves `i64`: the exact sum decides. (tai-time also refuses where only a partial sum
+    /// leaves it; this does not.)
     ///
     /// ```
     /// use admezgast::{Count, Epoch, LeapOffset, UnixSeconds};
@@ -109,6 +109,11 @@ impl Count {
     /// let (unix, leap) = (UnixSeconds(1_700_000_000), LeapOffset(37));
     /// let count = Count::try_from_unix_timestamp(Epoch::GPS_TIME, unix, 0, leap);
     /// assert_eq!(count, Ok(Count::new(1_384_035_218, 0).unwrap()));
+    ///
+    /// let (latest, carried) = (UnixSeconds(i64::MAX), 1_000_000_000);
+    /// let top = |leap| Count::try_from_unix_timestamp(Epoch(0), latest, carried, LeapOffset(leap));
+    /// assert_eq!(top(-1), Ok(Count::new(i64::MAX, 0).unwrap()));
+    /// assert!(top(0).is_err());
     /// ```
     ///
     /// Two of the numbers swapped do not compile:
@@ -133,14 +138,15 @@ impl Count {
         .ok_or(OutOfRangeError(()))
     }
 
-    /// The Unix seconds; `None` where the exact sum, seconds minus leap seconds plus epoch, leaves `i64`. (tai-time refuses
-    /// for a partial sum too.)
+    /// The Unix seconds, rounded down; `None` where `secs - leap + epoch` leaves `i64`: the exact sum decides. (tai-time also
+    /// refuses where only a partial sum leaves it; this does not.)
     ///
     /// ```
     /// use admezgast::{Count, Epoch, LeapOffset, UnixSeconds};
     ///
     /// let unix = Count::MIN.as_unix_secs(Epoch(1), LeapOffset(1));
     /// assert_eq!(unix, Some(UnixSeconds(i64::MIN)));
+    /// assert_eq!(Count::MIN.as_unix_secs(Epoch(0), LeapOffset(1)), None);
     /// ```
     #[must_use]
     pub fn as_unix_secs(self, epoch: Epoch, leap: LeapOffset) -> Option<UnixSeconds> {
@@ -151,8 +157,8 @@ impl Count {
         )
     }
 
-    /// The count of the same moment over another epoch; `None` where there is none: the exact sum, old epoch minus new plus
-    /// seconds, leaves `i64`. It is tai-time's `to_tai_time`, which refuses for a partial sum too.
+    /// The count of the same moment over another epoch; `None` where there is none: `old - new + secs` leaves `i64`, and the
+    /// exact sum decides. It is tai-time's `to_tai_time`, which also refuses where only a partial sum leaves it.
     ///
     /// ```
     /// use admezgast::{Count, Epoch};
@@ -160,6 +166,7 @@ impl Count {
     /// let count = Count::new(5, 0).unwrap();
     /// let moved = count.change_epoch(Epoch(i64::MIN), Epoch(1));
     /// assert_eq!(moved, Count::new(i64::MIN + 4, 0));
+    /// assert_eq!(Count::EPOCH.change_epoch(Epoch(i64::MIN), Epoch(1)), None);
     /// ```
     #[must_use]
     pub fn change_epoch(self, old: Epoch, new: Epoch) -> Option<Self> {

@@ -11,7 +11,8 @@
 //! program changes its `use` lines, or none with `tai-time = { package = "admezgast", path = … }` in its manifest.
 //! Left out are clocks, system time, the features, operators and the forms that panic; and only reading the parts and the
 //! constants is `const`. Refused, where tai-time is lenient, are 10^9 nanoseconds among calendar fields and a `+` inside a
-//! field of a text, as [`ParseDateTimeError::InvalidFieldValue`] for `2020-+5-01 00:00:00`.
+//! field of a text, as [`ParseDateTimeError::InvalidFieldValue`] for `2020-+5-01 00:00:00`. Answered, where tai-time
+//! refuses, is a conversion of Unix seconds or a change of epoch whose result fits while a partial sum does not.
 //!
 //! A quad may leave if its gas was analysed after the last fill:
 //!

@@ -109,8 +109,8 @@ impl<const EPOCH_REF: i64> TaiTime<EPOCH_REF> {
     ///
     /// # Errors
     ///
-    /// The exact sum, seconds plus carry plus leap seconds minus epoch, leaves `i64`. (tai-time refuses for a partial sum
-    /// too.)
+    /// `secs + carry + leap_secs - EPOCH_REF` leaves `i64`: the exact sum decides. (tai-time also refuses where only a
+    /// partial sum leaves it; this does not.)
     ///
     /// ```
     /// use admezgast::GpsTime;
@@ -118,6 +118,7 @@ impl<const EPOCH_REF: i64> TaiTime<EPOCH_REF> {
     /// let time = GpsTime::try_from_unix_timestamp(1_700_000_000, 0, 37).unwrap();
     /// assert_eq!(time.as_secs(), 1_384_035_218);
     /// assert_eq!(time.as_unix_secs(37), Some(1_700_000_000));
+    /// assert!(GpsTime::try_from_unix_timestamp(i64::MIN, 0, 0).is_err());
     /// ```
     pub fn try_from_unix_timestamp(
         secs: i64,
@@ -151,8 +152,15 @@ impl<const EPOCH_REF: i64> TaiTime<EPOCH_REF> {
         self.nanos
     }
 
-    /// The Unix seconds; `leap_secs` is TAI minus UTC. `None` where the exact sum, seconds minus leap seconds plus epoch,
-    /// leaves `i64`. (tai-time refuses for a partial sum too.)
+    /// The Unix seconds, rounded down; `leap_secs` is TAI minus UTC. `None` where `secs - leap_secs + EPOCH_REF` leaves `i64`:
+    /// the exact sum decides. (tai-time also refuses where only a partial sum leaves it; this does not.)
+    ///
+    /// ```
+    /// use admezgast::GpsTime;
+    ///
+    /// assert_eq!(GpsTime::EPOCH.as_unix_secs(19), Some(315_964_800));
+    /// assert_eq!(GpsTime::MAX.as_unix_secs(19), None);
+    /// ```
     #[must_use]
     pub fn as_unix_secs(&self, leap_secs: i64) -> Option<i64> {
         self.count()
@@ -160,8 +168,8 @@ impl<const EPOCH_REF: i64> TaiTime<EPOCH_REF> {
             .map(|unix| unix.0)
     }
 
-    /// The same moment over another epoch; `None` where no timestamp lies there: the exact sum, this epoch minus the other
-    /// plus seconds, leaves `i64`. (tai-time refuses for a partial sum too.)
+    /// The same moment over another epoch; `None` where no timestamp lies there: `EPOCH_REF - OTHER_EPOCH_REF + secs` leaves
+    /// `i64`, and the exact sum decides. (tai-time also refuses where only a partial sum leaves it; this does not.)
     ///
     /// ```
     /// use admezgast::{GpsTime, MonotonicTime, TaiTime};
@@ -170,6 +178,7 @@ impl<const EPOCH_REF: i64> TaiTime<EPOCH_REF> {
     ///
     /// let far = TaiTime::<{ i64::MIN }>::new(5, 0).unwrap();
     /// assert_eq!(far.to_tai_time(), TaiTime::<1>::new(i64::MIN + 4, 0));
+    /// assert_eq!(GpsTime::MAX.to_tai_time::<0>(), None);
     /// ```
     #[must_use]
     pub fn to_tai_time<const OTHER_EPOCH_REF: i64>(&self) -> Option<TaiTime<OTHER_EPOCH_REF>> {

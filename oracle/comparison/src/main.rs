@@ -134,7 +134,7 @@ fn report(tally: &Tally) {
     for (split, cases) in SPLITS.iter().zip(tally.splits) {
         println!("listed split: {cases} cases of {split}");
     }
-    for difference in &tally.first {
+    for difference in tally.first.iter().flatten() {
         println!("{difference}");
     }
 }

@@ -52,16 +52,16 @@ pub enum Split {
 
 /// What is said of each [`Split`], in its order.
 pub const SPLITS: [&str; 6] = [
-    "nano 1000000000 among fields, refused (5)",
-    "a + inside a field, accepted by the Rust, refused (9)",
-    "a + inside a field, refused by the Rust with another number, refused (9)",
-    "Unix to timestamp, refused by the Rust for a partial sum, answered",
-    "timestamp to Unix, refused by the Rust for a partial sum, answered",
-    "a change of epoch, refused by the Rust for a partial sum, answered",
+    "nano 1000000000 among fields: 5 is wanted",
+    "a + inside a field, accepted by the Rust: 9 is wanted",
+    "a + inside a field, refused by the Rust with another number: 9 is wanted",
+    "Unix to timestamp, refused by the Rust for a partial sum: the exact sum is wanted",
+    "timestamp to Unix, refused by the Rust for a partial sum: the exact sum is wanted",
+    "a change of epoch, refused by the Rust for a partial sum: the exact sum is wanted",
 ];
 
-/// How many differences are shown with their inputs.
-const SHOWN: usize = 10;
+/// How many differences of an entry are shown with their inputs.
+const SHOWN: usize = 3;
 
 #[derive(Default)]
 pub struct Tally {
@@ -69,8 +69,8 @@ pub struct Tally {
     pub differences: [u64; NAMES.len()],
     /// Cases in which the port is held against the documents, since the Rust says something else.
     pub splits: [u64; SPLITS.len()],
-    /// The first differences, each with its input.
-    pub first: Vec<String>,
+    /// The first differences of each entry, with their inputs.
+    pub first: [Vec<String>; NAMES.len()],
 }
 
 impl Tally {
@@ -97,9 +97,9 @@ impl Tally {
     #[cold]
     pub fn add_difference(&mut self, entry: Entry, wanted: String, port: String, request: String) {
         self.differences[entry as usize] += 1;
-        if self.first.len() < SHOWN {
+        if self.first[entry as usize].len() < SHOWN {
             let name = NAMES[entry as usize];
-            self.first.push(format!(
+            self.first[entry as usize].push(format!(
                 "{name}: {request}\n    wanted:   {wanted}\n    the port: {port}"
             ));
         }
@@ -116,8 +116,10 @@ impl Tally {
         for (sum, more) in self.splits.iter_mut().zip(other.splits) {
             *sum += more;
         }
-        let room = SHOWN - self.first.len();
-        self.first.extend(other.first.into_iter().take(room));
+        for (first, more) in self.first.iter_mut().zip(other.first) {
+            let room = SHOWN - first.len();
+            first.extend(more.into_iter().take(room));
+        }
     }
 
     pub fn all_cases(&self) -> u64 {
