@@ -87,7 +87,7 @@ def add_sums_over_other_epochs(requests):
         requests.add("epoch", epoch, random.other_epoch(), secs, random.nanos())
 
 
-def add_sums_that_come_back(requests):
+def add_exact_sums(requests):
     """The exact sum at, before and past the ends of i64, with and without a partial sum that leaves it."""
     targets = [end + step for end in (BOTTOM, TOP) for step in (-1, 0, 1)]
     for epoch, target, far in product(OTHER_EPOCHS, targets, (BOTTOM, BOTTOM + 1, TOP)):
@@ -155,7 +155,7 @@ def main(words):
     texts.add_all(requests)
     lines.add_all(requests)
     malformed.add_all(requests)
-    add_sums_that_come_back(requests)
+    add_exact_sums(requests)
     sys.stdout.buffer.write(b"".join(request + b"\n" for request in requests.lines))
 
 

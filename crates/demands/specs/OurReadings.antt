@@ -1,5 +1,5 @@
--- Readings beside those marked P: one of the longest texts, the latest timestamp, document 01's two of Unix seconds as 02 amends
--- them, 02's change of epoch (ask 5), and where the named epochs start.
+-- Readings beside those marked P: one of the longest texts, the latest timestamp, document 01's two of Unix seconds, one of
+-- them as 02 amends it, 02's change of epoch (ask 5), and where the named epochs start.
 use mathlib.Core.List.{List, [], _∷_}
 use Prim.Native.String.{String}
 use lib.IntN.{ℤ, pos, negℤ, _+ℤ_}

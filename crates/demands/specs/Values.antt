@@ -55,6 +55,10 @@ pub record Reaches (epoch secs : ℤ) (m : Moment) : Type 0 where
   pub secs-fit : I64 secs
   pub walked : momentAt (secs +ℤ epoch) ≡ m
 
+-- a count over a new epoch is an i64 and reads, by the walk, as the moment that a count over the old one reads as
+abbrev pub ReadsTheSame : ℤ → ℤ → ℤ → ℤ → Type 0
+ReadsTheSame old secs new secs′ = Reaches new secs′ (momentAt (secs +ℤ old))
+
 -- an earlier reading: by year, month, day, hour, minute, second, and then by nanoseconds
 pub data EarlierReading (m : Moment) (nanos : ℕ) (m′ : Moment) (nanos′ : ℕ) : Type 0 where
   by-moment : EarlierMoment m m′ → EarlierReading m nanos m′ nanos′

@@ -2,7 +2,7 @@
 ghost use mathlib.Core.Path.{_≡_};
 ghost use Prim.Native.Nat.{_+_, _*_, _^_, _<_};
 ghost use lib.Dec.{ltb};
-ghost use lib.IntN.{pos, negsuc, _+ℤ_, _-ℤ_, _*ℤ_};
+ghost use lib.IntN.{pos, negsuc, _+ℤ_, _-ℤ_};
 ghost use lib.Signed.{_<ℤ_};
 ghost use mir.Syntax.{w64};
 ghost use mir.Val.{ofZ, toZ};
@@ -11,6 +11,9 @@ ghost use Rattle.integers.specs.Integers.{Floor, whole, Proper, checked,
 const LOW: i64 = -9223372036854775808;
 
 const TOP: i64 = 9223372036854775807;
+
+// 2^63.
+const HALF: u64 = 9223372036854775808;
 
 // An exact result that an i64 holds, or none.
 pub enum Checked {
@@ -55,17 +58,17 @@ fn raised(x: i64) -> u64
     if x < 0 {
         return (x - LOW) as u64;
     }
-    9223372036854775808 + (x as u64)
+    HALF + (x as u64)
 }
 
 // x - 2^63, the way back.
 fn lowered(x: u64) -> i64
     ensures { λ r. ⌜ r ≡ pos x -ℤ pos (2 ^ 63) ⌝ }
 {
-    if x < 9223372036854775808 {
+    if x < HALF {
         return LOW + (x as i64);
     }
-    (x - 9223372036854775808) as i64
+    (x - HALF) as i64
 }
 
 // a + more + b - less, decided on the exact sum: what leaves on the way comes back if it carries as often as it borrows.

@@ -17,21 +17,21 @@ goodNanos nanos rest = check (ltb nanos 1000000000) (refusal 11 []) rest
 unfoldable pub newTime : ℤ → ℕ → Outcome (ℤ × ℕ)
 newTime secs nanos = goodNanos nanos (gives (secs, nanos))
 
--- Unix to timestamp: whole seconds in the nanoseconds are carried
+-- Unix to timestamp: the whole seconds in the nanoseconds carried, the leap seconds added, the epoch taken off
 unfoldable pub fromUnix : ℤ → ℤ → ℕ → ℤ → Outcome (ℤ × ℕ)
 fromUnix epoch unix nanos leap = representable secs (gives (secs, nanos % 1000000000))
   where
     secs : ℤ
     secs = unix +ℤ pos (nanos / 1000000000) +ℤ leap -ℤ epoch
 
--- timestamp to Unix
+-- timestamp to Unix: the leap seconds taken off, the epoch added
 unfoldable pub toUnix : ℤ → ℤ → ℕ → ℤ → Outcome ℤ
 toUnix epoch secs nanos leap = goodNanos nanos (representable unix (gives unix))
   where
     unix : ℤ
     unix = secs -ℤ leap +ℤ epoch
 
--- change of epoch
+-- change of epoch: the old epoch put in the place of the new one
 unfoldable pub overEpoch : ℤ → ℤ → ℤ → ℕ → Outcome (ℤ × ℕ)
 overEpoch old new secs nanos = goodNanos nanos (representable moved (gives (moved, nanos)))
   where

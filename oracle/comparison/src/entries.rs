@@ -76,14 +76,15 @@ pub fn to_tai_time(tally: &mut Tally, from: i64, to: i64, stamp: Timestamp) {
 }
 
 /// Where the Rust refuses a conversion, the port is held against 02: the exact sum decides.
-fn or_exact<T>(tally: &mut Tally, split: Split, rust: Answer<T>, exact: Answer<T>) -> Answer<T> {
-    let Answer::Refused(_) = rust else {
-        return rust;
-    };
-    if let Answer::Value(_) = exact {
+fn or_exact<T>(tally: &mut Tally, split: Split, rust: Answer<T>, exact: Answer<T>) -> Answer<T>
+where
+    T: Copy + PartialEq,
+{
+    let wanted = oracle::or_exact(rust, exact);
+    if wanted != rust {
         tally.add_split(split);
     }
-    exact
+    wanted
 }
 
 pub fn checked_add(tally: &mut Tally, stamp: Timestamp, duration: Duration) {

@@ -3,7 +3,15 @@
 use crate::entries::representable;
 use crate::{Answer, Timestamp};
 
-/// Unix to timestamp by its exact sum (02, ask 5).
+/// What a conversion has to answer: the Rust's answer, and where the Rust refuses, that of the exact sum (02, ask 5).
+pub fn or_exact<T>(rust: Answer<T>, exact: Answer<T>) -> Answer<T> {
+    match rust {
+        Answer::Refused(_) => exact,
+        _ => rust,
+    }
+}
+
+/// Unix to timestamp by its exact sum.
 pub fn exact_from_unix(epoch: i64, secs: i64, nanos: u32, leap_secs: i64) -> Answer<Timestamp> {
     let carry = i128::from(nanos / 1_000_000_000);
     let sum = i128::from(secs) + carry + i128::from(leap_secs) - i128::from(epoch);
@@ -13,12 +21,12 @@ pub fn exact_from_unix(epoch: i64, secs: i64, nanos: u32, leap_secs: i64) -> Ans
     })
 }
 
-/// Timestamp to Unix by its exact sum (02, ask 5).
+/// Timestamp to Unix by its exact sum.
 pub fn exact_to_unix(epoch: i64, secs: i64, leap_secs: i64) -> Answer<i64> {
     within_i64(i128::from(secs) - i128::from(leap_secs) + i128::from(epoch))
 }
 
-/// The change of epoch by its exact sum (02, ask 5).
+/// The change of epoch by its exact sum.
 pub fn exact_over_epoch(from: i64, to: i64, stamp: Timestamp) -> Answer<Timestamp> {
     let sum = i128::from(from) - i128::from(to) + i128::from(stamp.secs);
     within_i64(sum).map(|secs| Timestamp { secs, ..stamp })
