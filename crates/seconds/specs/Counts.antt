@@ -31,7 +31,7 @@ toUnix epoch secs nanos leap = goodNanos nanos (representable unix (gives unix))
     unix : ℤ
     unix = secs -ℤ leap +ℤ epoch
 
--- change of epoch: the old epoch put in the place of the new one
+-- change of epoch: the old one added, the new one taken off
 unfoldable pub overEpoch : ℤ → ℤ → ℤ → ℕ → Outcome (ℤ × ℕ)
 overEpoch old new secs nanos = goodNanos nanos (representable moved (gives (moved, nanos)))
   where
