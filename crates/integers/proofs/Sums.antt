@@ -76,7 +76,8 @@ outside-tells z e = go (isI64 z) refl e
     go true p q = let n : _≡_ {A = ℕ} 0 1 = cc in absurd (omega arith)
     go false p q = p
 
--- ---- a wrapping sum has carried exactly if it is below an addend, a wrapping difference has borrowed if what it was taken from was
+-- ---- carries and borrows: a wrapping sum carries exactly if it is below its first addend, a wrapping difference borrows exactly if
+-- more was taken than there was
 pub byte-one : (b : Bool) → boolByte b ≤ 1
 byte-one true = omega arith
 byte-one false = omega arith

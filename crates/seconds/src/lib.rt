@@ -1,4 +1,4 @@
-// Counts from one reference to another, refused for the exact result alone: the Rust refuses for a partial sum too.
+// Counts from one reference to another, refused where the exact result is no i64. The Rust also refuses where only a partial sum is none.
 use errors::CountError;
 use integers::Checked;
 use integers::checked_sum;
