@@ -48,7 +48,7 @@ typedef enum {
     TAI_NOT_REPRESENTABLE = 10,   /* the result is none of its type */
     TAI_BAD_NANOS = 11,           /* a given count or duration has 10^9 nanoseconds or more */
     TAI_START_OUTSIDE = 12,       /* at is beyond the line's length */
-    TAI_NO_ROOM = 13              /* the text is longer than what is left of the line */
+    TAI_NO_ROOM = 13              /* the text is longer than what is left of the line (wanted: its length) */
 } tai_refusal;
 
 typedef struct {
@@ -77,6 +77,7 @@ typedef struct {
 
 typedef struct {
     int32_t refusal;
+    uint32_t wanted; /* TAI_NO_ROOM: the length of the text, so that as many bytes from the same place are enough */
     size_t length;
 } tai_length_result;
 
@@ -122,8 +123,8 @@ tai_time_result tai_from_str(tai_epoch epoch, const uint8_t *text, size_t text_l
 
 /* Writes the text of a count, [-]YYYY-MM-DD hh:mm:ss[.d...], into the line from the place at, and tells its length.
  * given 0: no precision, all digits but trailing zeros; else digits of the fraction, at most nine, cut. Refuses 11, 12,
- * 13, in this order, and then leaves the line; else no byte before at or behind the text is touched. line may not be
- * null, also where line_len is 0. */
+ * 13, in this order, and then leaves the line and tells no length, with 13 the one that is wanted; else no byte before
+ * at or behind the text is touched. line may not be null, also where line_len is 0. */
 tai_length_result tai_display(tai_epoch epoch, int64_t secs, uint32_t nanos, int32_t given, size_t digits,
                               uint8_t *line, size_t line_len, size_t at);
 

@@ -156,6 +156,7 @@ def main(words):
     lines.add_all(requests)
     malformed.add_all(requests)
     add_exact_sums(requests)
+    lines.add_offers(requests)
     sys.stdout.buffer.write(b"".join(request + b"\n" for request in requests.lines))
 
 

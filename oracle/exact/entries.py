@@ -183,5 +183,6 @@ def line(epoch, secs, nanos, precision, at, lent):
     if at > len(lent):
         raise Refused(12)
     if len(text) > len(lent) - at:
-        raise Refused(13)
+        # 02, ask 11: with the full length of the text; 01 as it was has no value here.
+        raise Refused(13, *([len(text)] if AMENDED else []))
     return len(text), lent[:at] + text + lent[at + len(text) :]

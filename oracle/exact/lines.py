@@ -69,6 +69,15 @@ def add_random(requests):
         add_line(requests, stamp, at, length)
 
 
+def add_offers(requests):
+    """No room from a place on; from there just as many bytes as are wanted; and one byte fewer."""
+    for stamp in STAMPS:
+        size = len(text_of(*stamp))
+        for at in (0, 1, 2, 19, 300):
+            for room in (0, size // 2, size - 1, size):
+                add_line(requests, stamp, at, at + room)
+
+
 def add_all(requests):
     add_places(requests)
     add_refusals(requests)

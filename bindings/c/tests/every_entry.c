@@ -40,8 +40,12 @@ static int is_order(tai_ordering_result r, int32_t refusal, int32_t ordering) {
     return r.refusal == refusal && r.ordering == ordering;
 }
 
-static int is_length(tai_length_result r, int32_t refusal, size_t length) {
-    return r.refusal == refusal && r.length == length;
+static int writes(tai_length_result r, size_t length) {
+    return r.refusal == TAI_ACCEPTED && r.wanted == 0 && r.length == length;
+}
+
+static int writes_nothing(tai_length_result r, tai_refusal refusal, uint32_t wanted) {
+    return r.refusal == refusal && r.wanted == wanted && r.length == 0;
 }
 
 static const tai_epoch zero = {0}, one = {1}, bottom = {INT64_MIN};
@@ -131,17 +135,19 @@ static void reading(void) {
 static void writing(void) {
     uint8_t line[TAI_LONGEST_TEXT + 4];
     memset(line, 'x', sizeof line);
-    HOLD(is_length(tai_display(TAI_EPOCH_GPS, 0, too_many, 0, 0, line, 1, 2), TAI_BAD_NANOS, 0));
-    HOLD(is_length(tai_display(TAI_EPOCH_GPS, 0, 0, 0, 0, line, 1, 2), TAI_START_OUTSIDE, 0));
-    HOLD(is_length(tai_display(TAI_EPOCH_GPS, 0, 0, 0, 0, line, 19, 1), TAI_NO_ROOM, 0));
+    HOLD(writes_nothing(tai_display(TAI_EPOCH_GPS, 0, too_many, 0, 0, line, 1, 2), TAI_BAD_NANOS, 0));
+    HOLD(writes_nothing(tai_display(TAI_EPOCH_GPS, 0, 0, 0, 0, line, 1, 2), TAI_START_OUTSIDE, 0));
+    HOLD(writes_nothing(tai_display(TAI_EPOCH_GPS, 0, 0, 0, 0, line, 19, 1), TAI_NO_ROOM, 19));
+    HOLD(writes_nothing(tai_display(zero, 0, 129000000, 1, 2, line, 0, 0), TAI_NO_ROOM, 22));
+    HOLD(writes_nothing(tai_display(bottom, INT64_MIN, 1, 0, 0, line, 38, 1), TAI_NO_ROOM, TAI_LONGEST_TEXT));
     HOLD(line[0] == 'x' && memcmp(line, line + 1, sizeof line - 1) == 0);
 
-    HOLD(is_length(tai_display(TAI_EPOCH_GPS, 0, 0, 0, 9, line, 20, 1), TAI_ACCEPTED, 19));
+    HOLD(writes(tai_display(TAI_EPOCH_GPS, 0, 0, 0, 9, line, 20, 1), 19));
     HOLD(memcmp(line, "x1980-01-06 00:00:19x", 21) == 0);
-    HOLD(is_length(tai_display(zero, 0, 129000000, 1, 2, line, sizeof line, 1), TAI_ACCEPTED, 22));
+    HOLD(writes(tai_display(zero, 0, 129000000, 1, 2, line, sizeof line, 1), 22));
     HOLD(memcmp(line, "x1970-01-01 00:00:00.12x", 24) == 0);
 
-    HOLD(is_length(tai_display(bottom, INT64_MIN, 1, 0, 0, line, sizeof line, 1), TAI_ACCEPTED, TAI_LONGEST_TEXT));
+    HOLD(writes(tai_display(bottom, INT64_MIN, 1, 0, 0, line, sizeof line, 1), TAI_LONGEST_TEXT));
     HOLD(memcmp(line, "x-584554047284-02-23 16:59:44.000000001xxx", sizeof line) == 0);
 }
 

@@ -230,14 +230,16 @@ impl Count {
     ///
     /// # Errors
     ///
-    /// There is no such place, or no room; the line stays as it is.
+    /// There is no such place, or no room, and then how much is wanted; the line stays as it is.
     ///
     /// ```
-    /// use admezgast::{Count, Epoch};
+    /// use admezgast::{Count, Epoch, PrintError};
     ///
     /// let mut line = *b"fill: ....................";
     /// assert_eq!(Count::EPOCH.write_text(Epoch(0), None, &mut line, 6), Ok(19));
     /// assert_eq!(&line, b"fill: 1970-01-01 00:00:00.");
+    /// let no_room = PrintError::NoRoom { wanted: 19 };
+    /// assert_eq!(Count::EPOCH.write_text(Epoch(0), None, &mut line, 8), Err(no_room));
     /// ```
     pub fn write_text(
         self,

@@ -47,7 +47,10 @@ pub enum PrintError {
     /// The place lies beyond the line's length.
     StartOutside,
     /// The text is longer than what is left of the line.
-    NoRoom,
+    NoRoom {
+        /// The length of the text: as many bytes from the same place on are enough.
+        wanted: usize,
+    },
 }
 
 /// A stamp over another epoch than the type names.
@@ -92,10 +95,13 @@ impl fmt::Display for ParseDateTimeError {
 
 impl fmt::Display for PrintError {
     fn fmt(&self, f: &mut fmt::Formatter<'_>) -> fmt::Result {
-        f.write_str(match self {
-            Self::StartOutside => "the place lies beyond the line's length",
-            Self::NoRoom => "the text is longer than what is left of the line",
-        })
+        match self {
+            Self::StartOutside => "the place lies beyond the line's length".fmt(f),
+            Self::NoRoom { wanted } => write!(
+                f,
+                "the text is longer than what is left of the line: {wanted} bytes are wanted"
+            ),
+        }
     }
 }
 

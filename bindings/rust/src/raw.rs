@@ -52,10 +52,12 @@ pub struct OrderingResult {
     pub ordering: i32,
 }
 
+/// `wanted` is the length of a text that had no room, else 0.
 #[repr(C)]
 #[derive(Clone, Copy, Debug, PartialEq, Eq)]
 pub struct LengthResult {
     pub refusal: i32,
+    pub wanted: u32,
     pub length: usize,
 }
 

@@ -89,7 +89,9 @@ impl Refusal {
     pub fn print_error(self) -> PrintError {
         match self.number {
             12 => PrintError::StartOutside,
-            13 => PrintError::NoRoom,
+            13 => PrintError::NoRoom {
+                wanted: self.value as usize,
+            },
             _ => self.unknown(),
         }
     }
@@ -156,7 +158,7 @@ impl Told for OrderingResult {
 impl Told for LengthResult {
     type Answer = usize;
     fn refusal(self) -> (i32, u32, i32) {
-        (self.refusal, 0, 0)
+        (self.refusal, self.wanted, 0)
     }
     fn answer(self) -> usize {
         self.length

@@ -218,7 +218,20 @@ impl<const EPOCH_REF: i64> TaiTime<EPOCH_REF> {
     ///
     /// # Errors
     ///
-    /// There is no such place, or no room; the line stays as it is.
+    /// There is no such place, or no room, and then how much is wanted; the line stays as it is.
+    ///
+    /// ```
+    /// use admezgast::{GpsTime, PrintError};
+    ///
+    /// let analysed = GpsTime::new(0, 500_000_000).unwrap();
+    /// let mut line = b"analysed ".to_vec();
+    /// let place = line.len();
+    /// if let Err(PrintError::NoRoom { wanted }) = analysed.write_text(None, &mut line, place) {
+    ///     line.resize(place + wanted, 0); // exactly enough
+    /// }
+    /// assert_eq!(analysed.write_text(None, &mut line, place), Ok(21));
+    /// assert_eq!(line, b"analysed 1980-01-06 00:00:19.5");
+    /// ```
     pub fn write_text(
         self,
         precision: Option<usize>,

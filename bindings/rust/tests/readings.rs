@@ -220,8 +220,9 @@ fn lent_lines() {
         time.write_text(None, &mut line, 22),
         Err(PrintError::StartOutside)
     );
-    assert_eq!(time.write_text(None, &mut line, 3), Err(PrintError::NoRoom));
-    assert_eq!(time.write_text(None, &mut [], 0), Err(PrintError::NoRoom));
+    let no_room = Err(PrintError::NoRoom { wanted: 19 });
+    assert_eq!(time.write_text(None, &mut line, 3), no_room);
+    assert_eq!(time.write_text(None, &mut [], 0), no_room);
     assert_eq!(line, [b'x'; 21]);
     assert_eq!(time.write_text(None, &mut line, 1), Ok(19));
     assert_eq!(&line, b"x1970-01-01 00:00:00x");
@@ -230,6 +231,43 @@ fn lent_lines() {
         Ok(21)
     );
     assert_eq!(&line, b"1980-01-06 00:00:19.0");
+}
+
+/// Of each length that a text has, from each place: one byte fewer than wanted is refused with the same number.
+#[test]
+fn wanted_is_enough() {
+    let years = [
+        (0, 0),
+        (253_402_300_800, 0),
+        (i64::MAX, 0),
+        (i64::MIN, i64::MIN),
+    ];
+    for (secs, epoch) in years {
+        for precision in (0..=9).map(Some).chain([None]) {
+            let count = count(secs, 123_456_789);
+            let text = match precision {
+                Some(digits) => format!("{:.digits$}", count.over(Epoch(epoch))),
+                None => count.over(Epoch(epoch)).to_string(),
+            };
+            for place in [0, 1, 40] {
+                let write =
+                    |line: &mut [u8]| count.write_text(Epoch(epoch), precision, line, place);
+                let Err(PrintError::NoRoom { wanted }) = write(&mut vec![0; place]) else {
+                    panic!("a text has no room at the end of a line");
+                };
+                let mut fewer = vec![7; place + wanted - 1];
+                assert_eq!(write(&mut fewer), Err(PrintError::NoRoom { wanted }));
+                assert_eq!(fewer, vec![7; place + wanted - 1]);
+                let mut line = vec![7; place + wanted];
+                assert_eq!(write(&mut line), Ok(wanted));
+                assert_eq!(line, [vec![7; place].as_slice(), text.as_bytes()].concat());
+            }
+        }
+    }
+    assert_eq!(
+        PrintError::NoRoom { wanted: 38 }.to_string(),
+        "the text is longer than what is left of the line: 38 bytes are wanted"
+    );
 }
 
 #[test]

@@ -4,7 +4,7 @@
 use mathlib.Core.Path.{_≡_}
 use mathlib.Core.List.{List, [], _∷_}
 use Prim.Native.Nat.{ℕ, _+_, _<_, _≤_}
-use lib.IntN.{ℤ}
+use lib.IntN.{ℤ, pos}
 use lib.ListN.{length}
 use Rattle.errors.specs.Refusals.{Refusal, refuses, refusesInRangeError, refusal, ofParse}
 use Rattle.errors.specs.declared.ParseDateTimeError.{ParseDateTimeError}
@@ -121,8 +121,9 @@ module _ (secs : ℤ) (nanos : ℕ) (epoch : ℤ) (precision : Precision) (line 
   pub start-outside-before-no-room : nanos < 1000000000 → length line < at → displayed secs nanos epoch precision line at ≡ (refuses (refusal 12 []), line)
   start-outside-before-no-room = start-outside secs nanos epoch precision line at
 
-  -- and 13 comes last, where the text is longer than what is left.
-  pub no-room-last : nanos < 1000000000 → at ≤ length line → length line < at + length (timeText secs nanos epoch precision) → displayed secs nanos epoch precision line at ≡ (refuses (refusal 13 []), line)
+  -- and 13 comes last, where the text is longer than what is left, and tells how long it is.
+  pub no-room-last : nanos < 1000000000 → at ≤ length line → length line < at + length (timeText secs nanos epoch precision)
+      → displayed secs nanos epoch precision line at ≡ (refuses (refusal 13 (pos (length (timeText secs nanos epoch precision)) ∷ [])), line)
   no-room-last = no-room secs nanos epoch precision line at
 
 module _ (limit : ℕ) (epoch : ℤ) (text : List ℕ) where

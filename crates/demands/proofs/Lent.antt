@@ -1,12 +1,12 @@
 -- What printing leaves in the line: nothing new on a refusal, else the text in its place, from where it reads back.
 use mathlib.Core.Path.{_≡_, refl, sym, ap, _∙_}
 use mathlib.Core.Bool.{Bool, true, false, cond}
-use mathlib.Core.List.{List, [], _++_, append-assoc}
+use mathlib.Core.List.{List, [], _∷_, _++_, append-assoc}
 use Prim.Native.Nat.{ℕ, _+_, _-_, _≤_, _<_}
 use native.Mathlib.Nat.{add-zero}
 use native.Mathlib.Omega.{arith}
 use lib.Dec.{ltb}
-use lib.IntN.{ℤ}
+use lib.IntN.{ℤ, pos}
 use lib.ListN.{length, take, drop, length-take}
 use lib.Seq.{drop-append-add, take-append-seam}
 use borrow.Author.Tests.{lt-ltb, le-ltb, ltb-false}
@@ -20,7 +20,7 @@ use Rattle.printer.specs.Display.{timeText, displayed}
 abbrev tested : List ℕ → ℕ → List ℕ → Bool → Bool → Bool → Outcome ℕ × List ℕ
 tested line at text good outside narrow =
     cond {A = Outcome ℕ × List ℕ} good
-    (cond outside (refuses (refusal 12 [])) (cond narrow (refuses (refusal 13 [])) (gives (length text))), cond outside line (cond narrow line (take at line ++ text ++ drop (at + length text) line)))
+    (cond outside (refuses (refusal 12 [])) (cond narrow (refuses (refusal 13 (pos (length text) ∷ []))) (gives (length text))), cond outside line (cond narrow line (take at line ++ text ++ drop (at + length text) line)))
     (refuses (refusal 11 []), line)
 
 -- the bytes of a part of a list that is known by what stands before and behind it
@@ -80,7 +80,8 @@ module _ (secs : ℤ) (nanos : ℕ) (epoch : ℤ) (precision : Precision) (line 
   pub start-outside : nanos < 1000000000 → length line < at → displayed secs nanos epoch precision line at ≡ (refuses (refusal 12 []), line)
   start-outside h k = by-tests ∙ rw (lt-ltb nanos 1000000000 h, lt-ltb (length line) at k)
 
-  pub no-room : nanos < 1000000000 → at ≤ length line → length line < at + length (timeText secs nanos epoch precision) → displayed secs nanos epoch precision line at ≡ (refuses (refusal 13 []), line)
+  pub no-room : nanos < 1000000000 → at ≤ length line → length line < at + length (timeText secs nanos epoch precision)
+      → displayed secs nanos epoch precision line at ≡ (refuses (refusal 13 (pos (length (timeText secs nanos epoch precision)) ∷ [])), line)
   no-room h k l = by-tests ∙ rw (lt-ltb nanos 1000000000 h, le-ltb (length line) at k, lt-ltb (length line - at) (length (timeText secs nanos epoch precision)) (omega arith))
 
   pub printed : nanos < 1000000000 → at + length (timeText secs nanos epoch precision) ≤ length line

@@ -5,6 +5,7 @@ pub mod Readings
 pub mod LongestText
 pub mod GivenWhen
 pub mod Conversions
+pub mod WantedRoom
 pub mod TextOrder
 pub mod DigitsOnly
 pub mod Passed

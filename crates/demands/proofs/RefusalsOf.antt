@@ -138,7 +138,7 @@ answer-only : (line : List ℕ) (at : ℕ) (text : List ℕ) → OnlyRefuses (11
 unfolding byRoom
 answer-only line at text = go (ltb (length line) at) (ltb (length line - at) (length text))
   where
-    go : (a b : Bool) → OnlyRefuses (11 ∷ 12 ∷ 13 ∷ []) [] (cond a (refuses (refusal 12 [])) (cond b (refuses (refusal 13 [])) (gives (length text))))
+    go : (a b : Bool) → OnlyRefuses (11 ∷ 12 ∷ 13 ∷ []) [] (cond a (refuses (refusal 12 [])) (cond b (refuses (refusal 13 (pos (length text) ∷ []))) (gives (length text))))
     go true b = a-refusal tt
     go false true = a-refusal tt
     go false false = a-value

@@ -27,4 +27,6 @@ pub data DateRefused (epoch year : ℤ) (month day hour min sec nano : ℕ) : Re
 pub data PrintRefused (secs : ℤ) (nanos : ℕ) (epoch : ℤ) (precision : Precision) (line : List ℕ) (at : ℕ) : Refusal → Type 0 where
   bad-nanos : 1000000000 ≤ nanos → PrintRefused secs nanos epoch precision line at (refusal 11 [])
   start-outside : nanos < 1000000000 → length line < at → PrintRefused secs nanos epoch precision line at (refusal 12 [])
-  no-room : nanos < 1000000000 → at ≤ length line → length line < at + length (timeText secs nanos epoch precision) → PrintRefused secs nanos epoch precision line at (refusal 13 [])
+  -- with the text's length
+  no-room : nanos < 1000000000 → at ≤ length line → length line < at + length (timeText secs nanos epoch precision)
+      → PrintRefused secs nanos epoch precision line at (refusal 13 (pos (length (timeText secs nanos epoch precision)) ∷ []))

@@ -61,13 +61,13 @@ count-back Count.NotRepresentable = refl
 count-back Count.BadNanos = refl
 
 print : Refusal → PrintError
-print r = numbered 11 r Print.BadNanos (numbered 12 r Print.StartOutside Print.NoRoom)
+print r = numbered 11 r Print.BadNanos (numbered 12 r Print.StartOutside (Print.NoRoom (value r)))
 
 print-back : (e : PrintError) → print (ofPrint e) ≡ e
-unfolding print
+unfolding print value
 print-back Print.BadNanos = refl
 print-back Print.StartOutside = refl
-print-back Print.NoRoom = refl
+print-back (Print.NoRoom wanted) = refl
 
 -- ONE TO ONE
 back-one : {A B : Type 0} (f : A → B) (g : B → A) → ((x : A) → g (f x) ≡ x) → (a b : A) → f a ≡ f b → a ≡ b

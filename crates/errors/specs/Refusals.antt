@@ -1,4 +1,4 @@
--- Each refusal by its number and its values in document 01's table, "When the box says no".
+-- Each refusal by its number and its values in document 01's table, "When the box says no", and want of room by document 02, ask 11.
 use mathlib.Core.Bool.{Bool, cond}
 use mathlib.Core.List.{List, [], _∷_}
 use Prim.Native.Nat.{ℕ}
@@ -51,4 +51,4 @@ ofCount Count.BadNanos = refusal 11 []
 abbrev pub ofPrint : PrintError → Refusal
 ofPrint Print.BadNanos = refusal 11 []
 ofPrint Print.StartOutside = refusal 12 []
-ofPrint Print.NoRoom = refusal 13 []
+ofPrint (Print.NoRoom wanted) = refusal 13 (pos wanted ∷ [])

@@ -28,9 +28,9 @@ pub enum CountError {
     BadNanos,
 }
 
-// Refusals 11 to 13: nanoseconds that are none, or a line that has no place for the text.
+// Refusals 11 to 13: nanoseconds that are none, or a line that has no place for the text; the last tells the text's length.
 pub enum PrintError {
     BadNanos,
     StartOutside,
-    NoRoom,
+    NoRoom(u32),
 }

@@ -90,7 +90,7 @@ impl PrintError {
         match self {
             PrintError::BadNanos => Refusal::bare(11, false),
             PrintError::StartOutside => Refusal::bare(12, false),
-            PrintError::NoRoom => Refusal::bare(13, false),
+            PrintError::NoRoom(wanted) => Refusal::valued(13, false, wanted),
         }
     }
 }

@@ -1,8 +1,9 @@
 -- The three cases of a text that is to stand in a line, and that no two answers say the same.
 use mathlib.Core.Path.{_≡_, ap}
-use mathlib.Core.List.{List, [], _++_}
+use mathlib.Core.List.{List, [], _∷_, _++_}
 use Prim.Native.Nat.{ℕ, _+_, _-_, _<_, _≤_}
 use native.Mathlib.Omega.{arith}
+use lib.IntN.{pos}
 use lib.ListN.{length, take, drop}
 use borrow.Author.Tests.{lt-ltb, le-ltb}
 use Rattle.errors.specs.Refusals.{gives, refuses, refusal, ofPrint}
@@ -16,7 +17,7 @@ module _ (s : List ℕ) (at : ℕ) (text : List ℕ) where
   unfolding byRoom
   outside h = let a = lt-ltb (length s) at h in (rw a, rw a)
 
-  pub narrow : at ≤ length s → length s - at < length text → (refuses (refusal 13 []) ≡ answer s at text) × (s ≡ lineAfter s at text)
+  pub narrow : at ≤ length s → length s - at < length text → (refuses (refusal 13 (pos (length text) ∷ [])) ≡ answer s at text) × (s ≡ lineAfter s at text)
   unfolding byRoom
   narrow h k =
       let a = le-ltb (length s) at h in

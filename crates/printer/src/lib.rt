@@ -73,7 +73,7 @@ fn print_at(t: Instant, precision: Precision, line: &mut [u8], at: usize) -> Pri
     let fraction = fraction_part(t.nanos, precision);
     let length = part_length(year) + 15 + part_length(fraction);
     if line.len() - at < length {
-        return Printed::Refused(PrintError::NoRoom);
+        return Printed::Refused(PrintError::NoRoom(length as u32));
     }
     put_text(&mut line[at..], year, t, fraction);
     Printed::Length(length)

@@ -63,8 +63,9 @@ sign Greater = pos 1
 abbrev pub orderingResult : Outcome Ordering → OrderingResult
 orderingResult o = record { refusal = numberOr o; ordering = sign (givenOr Equal o) }
 
+-- the value of printing's refusals is the length that is wanted
 abbrev pub lengthResult : Outcome ℕ → LengthResult
-lengthResult o = record { refusal = numberOr o; length = givenOr 0 o }
+lengthResult o = record { refusal = numberOr o; wanted = valueOf o; length = givenOr 0 o }
 
 abbrev pub momentResult : Moment → MomentResult
 momentResult m =

@@ -32,9 +32,11 @@ pub struct OrderingResult {
     pub ordering: i32,
 }
 
+// wanted: the length of a text that had no room, else 0.
 #[repr(C)]
 pub struct LengthResult {
     pub refusal: i32,
+    pub wanted: u32,
     pub length: usize,
 }
 

@@ -1,4 +1,5 @@
 // How an answer is put into a struct of C.
+use crate::LengthResult;
 use crate::OrderingResult;
 use crate::TimeResult;
 use counts::Ordering;
@@ -7,9 +8,9 @@ use errors::Refusal;
 use printer::Precision;
 ghost use mathlib.Core.Path.{_≡_};
 ghost use Rattle.errors.specs.Refusals.{gives};
-ghost use Rattle.errors.specs.Told.{told};
+ghost use Rattle.errors.specs.Told.{inner, told};
 ghost use Rattle.counts.specs.Said.{saidTime};
-ghost use Rattle.records_box.specs.Results.{timeResult, orderingResult, precisionOf};
+ghost use Rattle.records_box.specs.Results.{firstValue, timeResult, orderingResult, lengthResult, precisionOf};
 
 pub fn time(secs: i64, nanos: u32) -> TimeResult
     ensures { λ r. ⌜ r ≡ timeResult (gives (secs, nanos)) ⌝ }
@@ -23,13 +24,19 @@ pub fn time(secs: i64, nanos: u32) -> TimeResult
     }
 }
 
+fn value(r: Refusal) -> u32
+    ensures { λ v. ⌜ v ≡ firstValue (inner r) ⌝ }
+{
+    if r.valued { r.value } else { 0 }
+}
+
 pub fn refused(r: Refusal) -> TimeResult
     ensures { λ x. ⌜ x ≡ timeResult (told r) ⌝ }
 {
     TimeResult {
         refusal: r.number as i32,
         in_range_error: r.in_range_error as i32,
-        value: if r.valued { r.value } else { 0 },
+        value: value(r),
         nanos: 0,
         secs: 0,
     }
@@ -41,6 +48,16 @@ pub fn time_result(a: TimeAnswer) -> TimeResult
     match a {
         TimeAnswer::At(t) => time(t.secs, t.nanos),
         TimeAnswer::Refused(e) => refused(e.refusal()),
+    }
+}
+
+pub fn length_refused(r: Refusal) -> LengthResult
+    ensures { λ x. ⌜ x ≡ lengthResult (told r) ⌝ }
+{
+    LengthResult {
+        refusal: r.number as i32,
+        wanted: value(r),
+        length: 0,
     }
 }
 

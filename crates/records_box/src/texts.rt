@@ -2,6 +2,7 @@
 use crate::LengthResult;
 use crate::MomentResult;
 use crate::TimeResult;
+use crate::results::length_refused;
 use crate::results::precision_of;
 use crate::results::refused;
 use crate::results::time;
@@ -42,12 +43,10 @@ pub extern "C" fn tai_display(
     match printer::display(t, Epoch(epoch), precision_of(given, digits), line, at) {
         Printed::Length(length) => LengthResult {
             refusal: -1,
+            wanted: 0,
             length,
         },
-        Printed::Refused(e) => LengthResult {
-            refusal: e.refusal().number as i32,
-            length: 0,
-        },
+        Printed::Refused(e) => length_refused(e.refusal()),
     }
 }
 

@@ -19,7 +19,7 @@ pub struct Asked {
 
 /// The Rust's text.
 pub struct Text {
-    bytes: [u8; 64],
+    bytes: [u8; LONGEST_TEXT],
     len: usize,
 }
 
@@ -36,7 +36,7 @@ impl Write for Text {
 impl Text {
     pub fn of(asked: Asked) -> Text {
         let mut text = Text {
-            bytes: [0; 64],
+            bytes: [0; LONGEST_TEXT],
             len: 0,
         };
         oracle::print(&mut text, asked.epoch, asked.stamp, asked.precision)
@@ -53,10 +53,11 @@ impl Text {
     }
 }
 
-/// The longest line lent here, and the bytes watched before and behind it.
+/// The longest line lent here, what it lacks at most, and the bytes watched before and behind it.
 pub const LONGEST_LINE: usize = 96;
+const LONGEST_TEXT: usize = 64;
 const MARGIN: usize = 16;
-const WHOLE: usize = LONGEST_LINE + 2 * MARGIN;
+const WHOLE: usize = LONGEST_LINE + LONGEST_TEXT + 2 * MARGIN;
 
 /// Bytes that no text contains, in an order that a shifted copy does not meet.
 const FILLING: [u8; WHOLE + 128] = {
@@ -69,15 +70,18 @@ const FILLING: [u8; WHOLE + 128] = {
     bytes
 };
 
-/// The length or the refusal that 01 asks for: 12 before 13, and else the text's length.
-fn wanted(text: usize, line: usize, at: usize) -> LengthResult {
-    let refusal = match line.checked_sub(at) {
-        None => 12,
-        Some(room) if room < text => 13,
-        Some(_) => -1,
+/// What 01 and 02's ask 11 say: 12, else 13 with the text's length, else that length.
+fn right(text: usize, line: usize, at: usize) -> LengthResult {
+    let (refusal, wanted, length) = match line.checked_sub(at) {
+        None => (12, 0, 0),
+        Some(room) if room < text => (13, text as u32, 0),
+        Some(_) => (-1, 0, text),
     };
-    let length = if refusal == -1 { text } else { 0 };
-    LengthResult { refusal, length }
+    LengthResult {
+        refusal,
+        wanted,
+        length,
+    }
 }
 
 /// One lent line of `len` bytes and one place.
@@ -100,7 +104,8 @@ pub fn at(tally: &mut Tally, entry: Entry, asked: Asked, text: &Text, len: usize
 /// Lines of a megabyte, with places at both ends.
 pub fn megabyte(tally: &mut Tally, asked: Asked) {
     let (text, len) = (Text::of(asked), 1 << 20);
-    let whole = FILLING.iter().copied().cycle().take(len + 2 * MARGIN);
+    let whole = FILLING.iter().copied().cycle();
+    let whole = whole.take(len + LONGEST_TEXT + 2 * MARGIN);
     let whole: Vec<u8> = whole.collect();
     let end = len - text.len;
     for place in [0, 1, len / 2, end - 1, end, end + 1, len - 1, len, len + 1] {
@@ -110,7 +115,8 @@ pub fn megabyte(tally: &mut Tally, asked: Asked) {
     }
 }
 
-/// Asks the port for the text in the middle of `port`; `rust`, the same bytes, gets what is wanted.
+/// One case. Where it is refused with 13, the bytes are still as they were: from the same place, one byte fewer than the
+/// port wants is refused again, and just as many as it wants are enough.
 #[allow(clippy::too_many_arguments)]
 #[inline]
 fn lend(
@@ -123,8 +129,32 @@ fn lend(
     len: usize,
     at: usize,
 ) {
-    let wanted = wanted(text.len, len, at);
-    if wanted.refusal == -1 {
+    tally.cases[entry as usize] += 1;
+    let Some(wanted) = ask(tally, entry, asked, text, rust, port, len, at) else {
+        return;
+    };
+    tally.offers += 1;
+    for room in [wanted - 1, wanted] {
+        ask(tally, entry, asked, text, rust, port, at + room, at);
+    }
+}
+
+/// Asks the port for the text in the middle of `port`; `rust`, the same bytes, gets what is right. The answer is the
+/// number that the port wants, if it rightly says so.
+#[allow(clippy::too_many_arguments)]
+#[inline]
+fn ask(
+    tally: &mut Tally,
+    entry: Entry,
+    asked: Asked,
+    text: &Text,
+    rust: &mut [u8],
+    port: &mut [u8],
+    len: usize,
+    at: usize,
+) -> Option<usize> {
+    let right = right(text.len, len, at);
+    if right.refusal == -1 {
         rust[MARGIN + at..][..text.len].copy_from_slice(&text.bytes[..text.len]);
     }
     let Asked {
@@ -135,16 +165,17 @@ fn lend(
     let line = &mut port[MARGIN..MARGIN + len];
     let given = port::display(Epoch(epoch), stamp.secs, stamp.nanos, precision, line, at);
     let port = black_box(port);
-    tally.cases[entry as usize] += 1;
-    if given != wanted || rust != port {
+    if given != right || rust != port {
         let precision = precision.map_or("-".to_owned(), |digits| digits.to_string());
         let request = format!("line {epoch} {stamp} {precision} {at}, {len} bytes lent");
-        let side = |length: LengthResult, bytes: &[u8]| match len <= LONGEST_LINE {
-            true => format!("{length:?}, with {MARGIN} bytes around {}", hex(bytes)),
+        let side = |length: LengthResult, bytes: &[u8]| match bytes.len() <= WHOLE {
+            true => format!("{length:?}, with {MARGIN} bytes before {}", hex(bytes)),
             false => format!("{length:?}"),
         };
-        tally.add_difference(entry, side(wanted, rust), side(given, port), request);
+        tally.add_difference(entry, side(right, rust), side(given, port), request);
+        return None;
     }
+    (given.refusal == 13).then_some(given.wanted as usize)
 }
 
 fn hex(bytes: &[u8]) -> String {

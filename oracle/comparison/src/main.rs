@@ -131,6 +131,10 @@ fn report(tally: &Tally) {
     }
     let (cases, differences) = (tally.all_cases(), tally.all_differences());
     println!("{:24} {cases:>13} {differences:>12}", "all");
+    println!(
+        "no room: {} cases, each with the number of bytes that it wants offered, and one fewer",
+        tally.offers
+    );
     for (split, cases) in SPLITS.iter().zip(tally.splits) {
         println!("listed split: {cases} cases of {split}");
     }

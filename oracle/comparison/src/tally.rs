@@ -67,6 +67,8 @@ const SHOWN: usize = 3;
 pub struct Tally {
     pub cases: [u64; NAMES.len()],
     pub differences: [u64; NAMES.len()],
+    /// Refusals 13 of these cases whose number was then offered, and a byte fewer.
+    pub offers: u64,
     /// Cases in which the port is held against the documents, since the Rust says something else.
     pub splits: [u64; SPLITS.len()],
     /// The first differences of each entry, with their inputs.
@@ -113,6 +115,7 @@ impl Tally {
         for (sum, more) in self.differences.iter_mut().zip(other.differences) {
             *sum += more;
         }
+        self.offers += other.offers;
         for (sum, more) in self.splits.iter_mut().zip(other.splits) {
             *sum += more;
         }

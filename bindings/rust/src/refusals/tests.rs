@@ -20,6 +20,14 @@ fn time(refusal: i32, in_range_error: i32, value: u32) -> TimeResult {
     }
 }
 
+fn length(refusal: i32, wanted: u32) -> LengthResult {
+    LengthResult {
+        refusal,
+        wanted,
+        length: 19,
+    }
+}
+
 fn refused(number: i32, in_range_error: i32, value: u32) -> Refusal {
     decide("tai_tried", time(number, in_range_error, value)).unwrap_err()
 }
@@ -44,9 +52,9 @@ fn minus_one_alone_is_accepted() {
             secs,
         };
         assert!(decide("tai_tried", lasts).is_err());
-        let (ordering, length) = (1, 19);
+        let ordering = 1;
         assert!(decide("tai_tried", OrderingResult { refusal, ordering }).is_err());
-        assert!(decide("tai_tried", LengthResult { refusal, length }).is_err());
+        assert!(decide("tai_tried", length(refusal, 0)).is_err());
     }
     let count = Count { secs: 5, nanos: 7 };
     assert_eq!(decide("tai_tried", time(-1, 0, 0)), Ok(count));
@@ -55,20 +63,14 @@ fn minus_one_alone_is_accepted() {
 #[test]
 fn a_number_that_the_caller_does_not_know_panics() {
     for number in NOBODY_KNOWS {
-        let (order, length) = (
-            OrderingResult {
-                refusal: number,
-                ordering: 1,
-            },
-            LengthResult {
-                refusal: number,
-                length: 19,
-            },
-        );
+        let order = OrderingResult {
+            refusal: number,
+            ordering: 1,
+        };
         let said = [
             panic_of(move || unless(10, "tai_tried", time(number, 0, 0))),
             panic_of(move || always("tai_tried", order)),
-            panic_of(move || decide("tai_tried", length).map_err(Refusal::print_error)),
+            panic_of(move || decide("tai_tried", length(number, 0)).map_err(Refusal::print_error)),
             panic_of(move || refused(number, 0, 0).date_time_error()),
             panic_of(move || refused(number, 0, 0).parse_error()),
             panic_of(move || refused(number, 1, 0).parse_error()),
@@ -92,4 +94,13 @@ fn a_number_of_another_entry_panics() {
     panic_of(|| refused(0, 0, 13).parse_error());
     panic_of(|| refused(7, 1, 0).parse_error());
     panic_of(|| refused(0, 0, 256).date_time_error());
+}
+
+#[test]
+fn want_of_room_tells_how_much() {
+    for wanted in [0, 19, u32::MAX] {
+        let refusal = decide("tai_tried", length(13, wanted)).unwrap_err();
+        let wanted = wanted as usize;
+        assert_eq!(refusal.print_error(), PrintError::NoRoom { wanted });
+    }
 }

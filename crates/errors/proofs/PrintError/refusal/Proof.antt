@@ -15,4 +15,4 @@ refusal-spec =
     (λ c κs. search needs)
     (λ c. rw (c .before .enum-told .given .1) (c .bare .ensures))
     (λ c. rw (c .before .enum-told2 .given .1) (c .bare2 .ensures))
-    (λ c. rw (c .before .enum-told3 .given .1) (c .bare3 .ensures)))
+    (λ c. rw (c .before .before .self .given .1) (c .valued .ensures)))

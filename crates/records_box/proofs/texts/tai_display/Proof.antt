@@ -1,17 +1,13 @@
 -- `records_box::tai_display`: the entry's outcome, encoded.
-use mathlib.Core.Bool.{false}
 use mathlib.Core.List.{List}
 use mathlib.Core.Path.{_≡_, sym, ap, _∙_}
 use Prim.Native.Nat.{ℕ}
-use lib.IntN.{pos}
-use mir.Facts.{toZ-ofZ, toZ-pos}
-use mir.Syntax.{w32}
+use mir.Facts.{toZ-ofZ}
 use denote.Ref.{now}
 use borrow.Author.Needs.{needs}
-use Rattle.errors.proofs.Told.{told-number}
 use Rattle.printer.specs.Display.{displayed}
 use Rattle.printer.specs.Lent as Lent
-use Rattle.records_box.specs.Results.{precisionOf, lineResult}
+use Rattle.records_box.specs.Results.{precisionOf, lengthResult, lineResult}
 use Rattle.records_box.proofs.texts.tai_display.Statement.{statement}
 use Rattle.records_box.proofs.texts.tai_display.Tie as tie
 
@@ -43,8 +39,8 @@ enum-known-e c = search needs
 refusal-requires : tie.Need-refusal-requires
 refusal-requires c κs = search needs
 
-cast-t18 : tie.Need-cast-t18
-cast-t18 c = search needs
+length-refused-requires : tie.Need-length-refused-requires
+length-refused-requires c κs = search needs
 
 same-length : tie.Need-same-length
 same-length c = search needs
@@ -56,7 +52,7 @@ same-length-2 : tie.Need-same-length-2
 same-length-2 c = search needs
 
 returns-2 : tie.Need-returns-2
-returns-2 c = ap (λ n. (record { refusal = n; length = 0 }, written (search))) (toZ-pos w32 (cast-t18 (search) .sfits) ∙ ap pos (told-number (c .before .refusal .result) false _ (c .before .refusal .ensures))) ∙ sym (ap (λ a. lineResult (Lent.said a, written (search))) (c .before .before .before .e .given .1)) ∙ ap lineResult (says (search))
+returns-2 c = ap (λ r. (r, written (search))) (c .length-refused .ensures ∙ ap lengthResult (c .before .refusal .ensures)) ∙ sym (ap (λ a. lineResult (Lent.said a, written (search))) (c .before .before .before .e .given .1)) ∙ ap lineResult (says (search))
 
 pub tai-display-spec : {M : Type 1} → statement M
 tai-display-spec =
@@ -67,7 +63,7 @@ tai-display-spec =
     enum-known-length
     enum-known-e
     refusal-requires
-    cast-t18
+    length-refused-requires
     same-length
     returns
     same-length-2
