@@ -17,12 +17,12 @@ module _ (s : List ℕ) (at : ℕ) (text : List ℕ) where
   unfolding byRoom
   outside h = let a = lt-ltb (length s) at h in (rw a, rw a)
 
-  pub narrow : at ≤ length s → length s - at < length text → (refuses (refusal 13 (pos (length text) ∷ [])) ≡ answer s at text) × (s ≡ lineAfter s at text)
+  pub narrow : {n : ℕ} → n ≡ length text → at ≤ length s → length s - at < n → (refuses (refusal 13 (pos n ∷ [])) ≡ answer s at text) × (s ≡ lineAfter s at text)
   unfolding byRoom
-  narrow h k =
+  narrow e h k =
       let a = le-ltb (length s) at h in
-      let b = lt-ltb (length s - at) (length text) k in
-      (rw (a, b), rw (a, b))
+      let b = lt-ltb (length s - at) (length text) (omega (arith, e)) in
+      (rw (e, a, b), rw (a, b))
 
   pub room : at ≤ length s → length text ≤ length s - at
       → (gives (length text) ≡ answer s at text) × (take at s ++ text ++ drop (at + length text) s ≡ lineAfter s at text)

@@ -71,8 +71,10 @@ fn print_at(t: Instant, precision: Precision, line: &mut [u8], at: usize) -> Pri
     }
     let year = year_part(t.year);
     let fraction = fraction_part(t.nanos, precision);
-    let length = part_length(year) + 15 + part_length(fraction);
-    if line.len() - at < length {
+    let without_fraction = part_length(year) + 15;
+    let length = without_fraction + part_length(fraction);
+    let room = line.len() - at;
+    if room < length {
         return Printed::Refused(PrintError::NoRoom(length as u32));
     }
     put_text(&mut line[at..], year, t, fraction);

@@ -1,9 +1,7 @@
 -- `printer::print_at`: the parts are those of the stamp's text, so the length is that text's, and the part of the line from the place on, put back, has it in front.
-use mathlib.Core.List.{[], _∷_}
 use mathlib.Core.Path.{_≡_, _∙_, ap}
 use Prim.Native.Nat.{_+_}
 use native.Mathlib.Omega.{arith}
-use lib.IntN.{pos}
 use lib.ListN.{length-take, length-drop, length}
 use mir.Syntax.{w64}
 use mir.Val.{SFits}
@@ -11,7 +9,7 @@ use mir.Facts.{toZ-ofZ}
 use borrow.Author.Needs.{needs}
 use Rattle.digits.proofs.Stores.{put-back}
 use Rattle.printed_parts.specs.Parts.{PartOf}
-use Rattle.errors.specs.Refusals.{gives, refuses, refusal}
+use Rattle.errors.specs.Refusals.{gives}
 use Rattle.printed_parts.specs.Text.{dash, point, yearText}
 use Rattle.printer.specs.Text.{text}
 use Rattle.printer.proofs.Text.{text-length, text-of, text-bound}
@@ -46,26 +44,23 @@ fraction-part-requires c κs = search needs
 part-length-requires : tie.Need-part-length-requires
 part-length-requires c κs = search needs
 
-add-length : tie.Need-add-length
-add-length c = let a = c .before .before .before .before .before .before .args in omega (arith, year-size c, text-length (a .t) (a .precision), text-bound (a .t) (a .precision) (c .before .before .before .before .before .before .pre))
+add-without-fraction : tie.Need-add-without-fraction
+add-without-fraction c = let a = c .before .before .before .before .before .before .args in omega (arith, year-size c, text-length (a .t) (a .precision), text-bound (a .t) (a .precision) (c .before .before .before .before .before .before .pre))
 
 part-length-requires-2 : tie.Need-part-length-requires-2
 part-length-requires-2 c κs = search needs
 
-add-length-2 : tie.Need-add-length-2
-add-length-2 c = let a = c .before .before .before .before .before .before .before .args in omega (arith, size c, text-bound (a .t) (a .precision) (c .before .before .before .before .before .before .before .pre))
+add-length : tie.Need-add-length
+add-length c = let a = c .before .before .before .before .before .before .before .args in omega (arith, size c, text-bound (a .t) (a .precision) (c .before .before .before .before .before .before .before .pre))
 
-sub-if2 : tie.Need-sub-if2
-sub-if2 c = search needs
+sub-room : tie.Need-sub-room
+sub-room c = search needs
 
 cast-t13 : tie.Need-cast-t13
 cast-t13 c = let a = c .before .before .before .before .before .before .before .before .args in omega (arith, size (search), text-bound (a .t) (a .precision) (c .before .before .before .before .before .before .before .before .pre))
 
 returns-2 : tie.Need-returns-2
-returns-2 c =
-    let e = size (search) in
-    let n = narrow _ _ _ (c .before .before .before .before .before .before .if1 .left) (rw e at (c .if2 .taken)) in
-    (ap (λ wanted. refuses (refusal 13 (pos wanted ∷ []))) e ∙ n .0, n .1)
+returns-2 c = narrow _ _ _ (size (search)) (c .before .before .before .before .before .before .if1 .left) (c .if2 .taken)
 
 sub-put-text : tie.Need-sub-put-text
 sub-put-text c = search needs
@@ -100,10 +95,10 @@ print-at-spec =
     year-part-requires
     fraction-part-requires
     part-length-requires
-    add-length
+    add-without-fraction
     part-length-requires-2
-    add-length-2
-    sub-if2
+    add-length
+    sub-room
     cast-t13
     returns-2
     sub-put-text
