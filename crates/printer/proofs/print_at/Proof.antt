@@ -60,7 +60,9 @@ cast-t13 : tie.Need-cast-t13
 cast-t13 c = let a = c .before .before .before .before .before .before .before .before .args in omega (arith, size (search), text-bound (a .t) (a .precision) (c .before .before .before .before .before .before .before .before .pre))
 
 returns-2 : tie.Need-returns-2
-returns-2 c = narrow _ _ _ (size (search)) (c .before .before .before .before .before .before .if1 .left) (c .if2 .taken)
+returns-2 c =
+    let a = c .before .before .before .before .before .before .before .before .args in
+    narrow (a .line .now) (a .at) (text (a .t) (a .precision)) (size (search)) (c .before .before .before .before .before .before .if1 .left) (c .if2 .taken)
 
 sub-put-text : tie.Need-sub-put-text
 sub-put-text c = search needs
