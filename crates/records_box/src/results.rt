@@ -8,9 +8,9 @@ use errors::Refusal;
 use printer::Precision;
 ghost use mathlib.Core.Path.{_≡_};
 ghost use Rattle.errors.specs.Refusals.{gives};
-ghost use Rattle.errors.specs.Told.{inner, told};
+ghost use Rattle.errors.specs.Told.{told};
 ghost use Rattle.counts.specs.Said.{saidTime};
-ghost use Rattle.records_box.specs.Results.{firstValue, timeResult, orderingResult, lengthResult, precisionOf};
+ghost use Rattle.records_box.specs.Results.{timeResult, orderingResult, lengthResult, precisionOf};
 
 pub fn time(secs: i64, nanos: u32) -> TimeResult
     ensures { λ r. ⌜ r ≡ timeResult (gives (secs, nanos)) ⌝ }
@@ -24,19 +24,13 @@ pub fn time(secs: i64, nanos: u32) -> TimeResult
     }
 }
 
-fn value(r: Refusal) -> u32
-    ensures { λ v. ⌜ v ≡ firstValue (inner r) ⌝ }
-{
-    if r.valued { r.value } else { 0 }
-}
-
 pub fn refused(r: Refusal) -> TimeResult
     ensures { λ x. ⌜ x ≡ timeResult (told r) ⌝ }
 {
     TimeResult {
         refusal: r.number as i32,
         in_range_error: r.in_range_error as i32,
-        value: value(r),
+        value: if r.valued { r.value } else { 0 },
         nanos: 0,
         secs: 0,
     }
@@ -54,9 +48,10 @@ pub fn time_result(a: TimeAnswer) -> TimeResult
 pub fn length_refused(r: Refusal) -> LengthResult
     ensures { λ x. ⌜ x ≡ lengthResult (told r) ⌝ }
 {
+    let x = refused(r);
     LengthResult {
-        refusal: r.number as i32,
-        wanted: value(r),
+        refusal: x.refusal,
+        wanted: x.value,
         length: 0,
     }
 }
