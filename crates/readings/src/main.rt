@@ -30,15 +30,19 @@ fn refused(r: Refusal) {
     write(b"\n");
 }
 
-fn show_over(t: TaiTime, epoch: Epoch, precision: Precision) {
-    let mut line = [0u8; 40];
-    match printer::display(t, epoch, precision, &mut line, 0) {
+fn show_in(t: TaiTime, epoch: Epoch, precision: Precision, line: &mut [u8]) {
+    match printer::display(t, epoch, precision, line, 0) {
         Printed::Length(n) => {
-            write_front(&line, n);
+            write_front(line, n);
             write(b"\n");
         }
         Printed::Refused(e) => refused(e.refusal()),
     }
+}
+
+fn show_over(t: TaiTime, epoch: Epoch, precision: Precision) {
+    let mut line = [0u8; 40];
+    show_in(t, epoch, precision, &mut line);
 }
 
 // A timestamp as its text over epoch 0, which tells its seconds and nanoseconds.
@@ -74,6 +78,14 @@ fn earliest_year() {
         DateTimeAnswer::At(t) => show(t, Precision::Default),
         DateTimeAnswer::Refused(e) => refused(e.refusal(false)),
     }
+}
+
+// A line with one byte fewer than the text has, and one with just as many.
+fn room() {
+    let mut fewer = [0u8; 18];
+    show_in(TaiTime::EPOCH, Epoch(0), Precision::Default, &mut fewer);
+    let mut enough = [0u8; 19];
+    show_in(TaiTime::EPOCH, Epoch(0), Precision::Default, &mut enough);
 }
 
 // The ends, that the longest duration lies between them, and the start of each named epoch.
@@ -118,5 +130,6 @@ fn main() {
     show(fraction, Precision::Digits(2));
     show(fraction, Precision::Digits(20));
     show(TaiTime::EPOCH, Precision::Digits(3));
+    room();
     constants();
 }
