@@ -5,8 +5,8 @@
  * its epoch: compare and subtract only counts over one epoch.
  *
  * Every call ends, for every number. refusal is TAI_ACCEPTED (-1), or the call is refused and it is one of the other
- * names of tai_refusal. The remaining fields of a refusal are 0, but value, and in_range_error where a text's date is
- * refused. Take a number that is not named here for a refusal too. */
+ * names of tai_refusal. The remaining fields of a refusal are 0, but value, in_range_error where a text's date is
+ * refused, and wanted where there is no room. Take a number that is not named here for a refusal too. */
 #ifndef RECORDS_BOX_H
 #define RECORDS_BOX_H
 
@@ -77,7 +77,7 @@ typedef struct {
 
 typedef struct {
     int32_t refusal;
-    uint32_t wanted; /* TAI_NO_ROOM: the length of the text, so that as many bytes from the same place are enough */
+    uint32_t wanted; /* the length of a text that had no room (TAI_NO_ROOM), else 0 */
     size_t length;
 } tai_length_result;
 
@@ -123,8 +123,8 @@ tai_time_result tai_from_str(tai_epoch epoch, const uint8_t *text, size_t text_l
 
 /* Writes the text of a count, [-]YYYY-MM-DD hh:mm:ss[.d...], into the line from the place at, and tells its length.
  * given 0: no precision, all digits but trailing zeros; else digits of the fraction, at most nine, cut. Refuses 11, 12,
- * 13, in this order, and then leaves the line and tells no length, with 13 the one that is wanted; else no byte before
- * at or behind the text is touched. line may not be null, also where line_len is 0. */
+ * 13, in this order, and then leaves the line; after 13, wanted bytes from the same place are enough. Else no byte
+ * before at or behind the text is touched. line may not be null, also where line_len is 0. */
 tai_length_result tai_display(tai_epoch epoch, int64_t secs, uint32_t nanos, int32_t given, size_t digits,
                               uint8_t *line, size_t line_len, size_t at);
 

@@ -3,7 +3,7 @@
 from entries import text_of
 from request_list import BAD_NANOS, BOTTOM, FULL, HIGHEST, NAMED, TOP
 
-# Epoch, seconds, nanoseconds and precision: texts of every length from 19 to 38 bytes.
+# Epoch, seconds, nanoseconds and precision: texts of 19 to 38 bytes.
 STAMPS = (
     (0, 0, 0, None),
     (0, -1, 500_000_000, None),

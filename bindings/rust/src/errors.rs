@@ -96,11 +96,13 @@ impl fmt::Display for ParseDateTimeError {
 impl fmt::Display for PrintError {
     fn fmt(&self, f: &mut fmt::Formatter<'_>) -> fmt::Result {
         match self {
-            Self::StartOutside => "the place lies beyond the line's length".fmt(f),
-            Self::NoRoom { wanted } => write!(
-                f,
-                "the text is longer than what is left of the line: {wanted} bytes are wanted"
-            ),
+            Self::StartOutside => f.write_str("the place lies beyond the line's length"),
+            Self::NoRoom { wanted } => {
+                write!(
+                    f,
+                    "the text has {wanted} bytes, more than are left of the line"
+                )
+            }
         }
     }
 }

@@ -1,7 +1,7 @@
 //! The archive's C interface as `bindings/c/records_box.h` declares it, for Rust once: `oracle/port` uses this file too.
 //!
-//! `refusal` is -1 where a call is accepted, and every other number is a refusal; its `value` stands beside it, and its
-//! remaining fields are 0.
+//! `refusal` is -1 where a call is accepted, and every other number is a refusal; its `value` or `wanted` stands
+//! beside it, and its remaining fields are 0.
 
 /// A reference that seconds count from, in seconds from 1970-01-01 00:00:00 TAI.
 #[repr(transparent)]

@@ -87,9 +87,10 @@ impl Refusal {
 
     /// The refusal of a line.
     pub fn print_error(self) -> PrintError {
-        match self.number {
-            12 => PrintError::StartOutside,
-            13 => PrintError::NoRoom {
+        match (self.number, self.value) {
+            (12, 0) => PrintError::StartOutside,
+            // No text is empty: an archive that wants nothing is of a version that did not tell it.
+            (13, 1..) => PrintError::NoRoom {
                 wanted: self.value as usize,
             },
             _ => self.unknown(),

@@ -233,7 +233,7 @@ fn lent_lines() {
     assert_eq!(&line, b"1980-01-06 00:00:19.0");
 }
 
-/// Of each length that a text has, from each place: one byte fewer than wanted is refused with the same number.
+/// Texts of each length, from three places: one byte fewer than wanted is refused with the same number.
 #[test]
 fn wanted_is_enough() {
     let years = [
@@ -266,7 +266,7 @@ fn wanted_is_enough() {
     }
     assert_eq!(
         PrintError::NoRoom { wanted: 38 }.to_string(),
-        "the text is longer than what is left of the line: 38 bytes are wanted"
+        "the text has 38 bytes, more than are left of the line"
     );
 }
 

@@ -1,11 +1,11 @@
 -- Document 02, ask 11: want of room tells how long the text is. That many bytes from the same place are enough, and one fewer
 -- are not, in every line.
-use mathlib.Core.Path.{_≡_, refl, sym, ap, _∙_}
+use mathlib.Core.Path.{_≡_, refl, _∙_}
 use mathlib.Core.List.{List, [], _∷_, _++_, append-nil}
 use Prim.Native.Nat.{ℕ, _+_, _<_, _≤_}
 use native.Mathlib.Omega.{arith}
 use lib.IntN.{ℤ, pos}
-use lib.ListN.{length, take, drop}
+use lib.ListN.{length, take}
 use lib.Seq.{drop-length}
 use Rattle.errors.specs.Refusals.{Refusal, gives, refuses, refusal}
 use Rattle.printed_parts.specs.declared.Precision.{Precision}
@@ -45,12 +45,12 @@ module _ (secs : ℤ) (nanos : ℕ) (epoch : ℤ) (precision : Precision) (line 
 
     -- n is more than what was left from the place on;
     pub wanted-is-more : (at ≤ length line) × (length line < at + n)
-    wanted-is-more = (why .within, omega (arith, why .longer, is-length))
+    wanted-is-more = (why .within, omega (arith, why .within, why .longer, is-length))
 
     -- into any line that has exactly n bytes from there, printing is accepted and writes them all, the text's n bytes;
     pub wanted-is-enough : (other : List ℕ) → length other ≡ at + n → (displayed secs nanos epoch precision other at ≡ (gives n, take at other ++ text)) × (length text ≡ n)
-    wanted-is-enough other e = (printed secs nanos epoch precision other at (why .good) (omega (arith, is-length)) ∙ rw (is-length, ← e, drop-length other, append-nil), is-length)
+    wanted-is-enough other e = (printed secs nanos epoch precision other at (why .good) (omega (arith, is-length, wanted-is-more)) ∙ rw (is-length, ← e, drop-length other, append-nil), is-length)
 
     -- and into any line with one byte fewer it is refused with 13 and the same n, and leaves the line.
     pub one-fewer-is-refused : (other : List ℕ) → length other + 1 ≡ at + n → displayed secs nanos epoch precision other at ≡ (refuses (refusal 13 (pos n ∷ [])), other)
-    one-fewer-is-refused other e = no-room secs nanos epoch precision other at (why .good) (omega (arith, wanted-is-more)) (omega (arith, is-length)) ∙ rw is-length
+    one-fewer-is-refused other e = no-room secs nanos epoch precision other at (why .good) (omega (arith, wanted-is-more)) (omega (arith, is-length, wanted-is-more)) ∙ rw is-length

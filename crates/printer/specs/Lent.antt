@@ -9,7 +9,7 @@ use Rattle.errors.specs.Refusals.{Outcome, gives, refuses, refusal, ofPrint}
 use Rattle.printer.specs.declared.Printed.{Printed}
 use Rattle.printer.specs.declared.Printed.the-variants.{Length, Refused}
 
--- an answer by the number of its bytes, or by its refusal's number
+-- an answer by the number of its bytes, or by its refusal
 abbrev pub said : Printed → Outcome ℕ
 said (Length n) = gives n
 said (Refused e) = refuses (ofPrint e)

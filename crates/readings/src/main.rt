@@ -1,4 +1,4 @@
-// The readings of document 01 that are run, as document 02 amends them, and the constants: a line for each, held to the documents' answer in the file stdout.
+// The readings of document 01 that are run, as document 02 amends them, want of room, and the constants: a line for each, held to the documents' answer in the file stdout.
 use answers::put_refusal;
 use counts::DateTimeAnswer;
 use counts::Duration;

@@ -19,7 +19,7 @@ pub struct Asked {
 
 /// The Rust's text.
 pub struct Text {
-    bytes: [u8; LONGEST_TEXT],
+    bytes: [u8; TEXT_ROOM],
     len: usize,
 }
 
@@ -36,11 +36,11 @@ impl Write for Text {
 impl Text {
     pub fn of(asked: Asked) -> Text {
         let mut text = Text {
-            bytes: [0; LONGEST_TEXT],
+            bytes: [0; TEXT_ROOM],
             len: 0,
         };
         oracle::print(&mut text, asked.epoch, asked.stamp, asked.precision)
-            .expect("no text is longer than 64 bytes");
+            .expect("no text is longer than that");
         text
     }
 
@@ -53,11 +53,11 @@ impl Text {
     }
 }
 
-/// The longest line lent here, what it lacks at most, and the bytes watched before and behind it.
+/// The longest line lent here, room for any text behind it, and the bytes watched before and behind all.
 pub const LONGEST_LINE: usize = 96;
-const LONGEST_TEXT: usize = 64;
+const TEXT_ROOM: usize = 64;
 const MARGIN: usize = 16;
-const WHOLE: usize = LONGEST_LINE + LONGEST_TEXT + 2 * MARGIN;
+const WHOLE: usize = LONGEST_LINE + TEXT_ROOM + 2 * MARGIN;
 
 /// Bytes that no text contains, in an order that a shifted copy does not meet.
 const FILLING: [u8; WHOLE + 128] = {
@@ -105,7 +105,7 @@ pub fn at(tally: &mut Tally, entry: Entry, asked: Asked, text: &Text, len: usize
 pub fn megabyte(tally: &mut Tally, asked: Asked) {
     let (text, len) = (Text::of(asked), 1 << 20);
     let whole = FILLING.iter().copied().cycle();
-    let whole = whole.take(len + LONGEST_TEXT + 2 * MARGIN);
+    let whole = whole.take(len + TEXT_ROOM + 2 * MARGIN);
     let whole: Vec<u8> = whole.collect();
     let end = len - text.len;
     for place in [0, 1, len / 2, end - 1, end, end + 1, len - 1, len, len + 1] {
@@ -166,13 +166,15 @@ fn ask(
     let given = port::display(Epoch(epoch), stamp.secs, stamp.nanos, precision, line, at);
     let port = black_box(port);
     if given != right || rust != port {
-        let precision = precision.map_or("-".to_owned(), |digits| digits.to_string());
-        let request = format!("line {epoch} {stamp} {precision} {at}, {len} bytes lent");
         let side = |length: LengthResult, bytes: &[u8]| match bytes.len() <= WHOLE {
             true => format!("{length:?}, with {MARGIN} bytes before {}", hex(bytes)),
             false => format!("{length:?}"),
         };
-        tally.add_difference(entry, side(right, rust), side(given, port), request);
+        tally.add_difference(entry, || {
+            let precision = precision.map_or("-".to_owned(), |digits| digits.to_string());
+            let request = format!("line {epoch} {stamp} {precision} {at}, {len} bytes lent");
+            [side(right, rust), side(given, port), request]
+        });
         return None;
     }
     (given.refusal == 13).then_some(given.wanted as usize)

@@ -92,15 +92,18 @@ impl Tally {
     ) {
         self.cases[entry as usize] += 1;
         if wanted != port {
-            self.add_difference(entry, format!("{wanted:?}"), format!("{port:?}"), request());
+            self.add_difference(entry, || {
+                [format!("{wanted:?}"), format!("{port:?}"), request()]
+            });
         }
     }
 
+    /// Counts a difference; what was wanted, what the port gave and the request are told of the first ones alone.
     #[cold]
-    pub fn add_difference(&mut self, entry: Entry, wanted: String, port: String, request: String) {
+    pub fn add_difference(&mut self, entry: Entry, told: impl FnOnce() -> [String; 3]) {
         self.differences[entry as usize] += 1;
         if self.first[entry as usize].len() < SHOWN {
-            let name = NAMES[entry as usize];
+            let (name, [wanted, port, request]) = (NAMES[entry as usize], told());
             self.first[entry as usize].push(format!(
                 "{name}: {request}\n    wanted:   {wanted}\n    the port: {port}"
             ));

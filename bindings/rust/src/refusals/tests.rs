@@ -98,9 +98,11 @@ fn a_number_of_another_entry_panics() {
 
 #[test]
 fn want_of_room_tells_how_much() {
-    for wanted in [0, 19, u32::MAX] {
+    for wanted in [1, 19, u32::MAX] {
         let refusal = decide("tai_tried", length(13, wanted)).unwrap_err();
         let wanted = wanted as usize;
         assert_eq!(refusal.print_error(), PrintError::NoRoom { wanted });
     }
+    panic_of(|| decide("tai_tried", length(13, 0)).map_err(Refusal::print_error));
+    panic_of(|| decide("tai_tried", length(12, 19)).map_err(Refusal::print_error));
 }
