@@ -6,6 +6,7 @@ pub mod LongestText
 pub mod GivenWhen
 pub mod Conversions
 pub mod WantedRoom
+pub mod DigitsOff
 pub mod TextOrder
 pub mod DigitsOnly
 pub mod Passed

@@ -3,3 +3,4 @@ pub mod Refused
 pub mod Readings
 pub mod OurReadings
 pub mod GivenWhen
+pub mod DigitsOff

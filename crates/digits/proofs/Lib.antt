@@ -1,3 +1,4 @@
 pub mod Stores
 pub mod Decimal
 pub mod Width
+pub mod Product

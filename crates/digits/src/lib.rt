@@ -10,16 +10,14 @@ pub struct Split {
     pub digit: u8,
 }
 
-// Where a digit comes off a number.
+// Where a digit comes off a number: the product and the shift are n / 10, as in the Rust. 429496730 is 2^32 / 10, rounded up.
 pub fn split_last_digit(n: u32) -> Split
     requires { ⌜ n < 2 ^ 30 ⌝ }
     ensures { λ r. ⌜ (r .rest ≡ n / 10) × (r .digit ≡ n % 10) ⌝ }
 {
-    let digit = (n % 10) as u8;
-    Split {
-        rest: n / 10,
-        digit,
-    }
+    let rest = (n as u64 * 429496730 >> 32) as u32;
+    let digit = (n - rest * 10) as u8;
+    Split { rest, digit }
 }
 
 pub(crate) struct SplitPair {
@@ -27,15 +25,14 @@ pub(crate) struct SplitPair {
     pub pair: u32,
 }
 
-// Where two digits come off.
+// Where two digits come off, in the same way.
 fn split_last_pair(n: u32) -> SplitPair
     requires { ⌜ n < 2 ^ 30 ⌝ }
     ensures { λ r. ⌜ (r .rest ≡ n / 100) × (r .pair ≡ n % 100) ⌝ }
 {
-    SplitPair {
-        rest: n / 100,
-        pair: n % 100,
-    }
+    let rest = (n as u64 * 42949673 >> 32) as u32;
+    let pair = n - rest * 100;
+    SplitPair { rest, pair }
 }
 
 // Two digits as one number of 16 bits, so that a single store writes them: the first digit in the low byte, and 48, the byte of `0`, in both.

@@ -100,10 +100,11 @@ fn trimmed(nanos: u32) -> Part
 {
     let mut width = 9;
     let mut value = nanos;
-    // Whole milliseconds, and whole seconds, end in six zeros.
-    if nanos % 1000000 == 0 {
+    // Whole milliseconds, and whole seconds, end in six zeros; of those the product and the shift are their number.
+    let millis = (nanos as u64 * 4295 >> 32) as u32;
+    if millis * 1000000 == nanos {
         width = 3;
-        value = nanos / 1000000;
+        value = millis;
     }
     while 0 < width {
         let split = split_last_digit(value);

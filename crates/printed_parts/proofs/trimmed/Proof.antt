@@ -1,7 +1,7 @@
 -- `printed_parts::trimmed`: zeros at the end may go at once (`trim-zeros`, `trim-down`), and any other digit stays (`trim-stop`).
 use mathlib.Core.Logic.{⊎-elim}
-use mathlib.Core.Path.{_≡_, ap, _∙_}
-use Prim.Native.Nat.{ℕ, _*_, _/_, _%_, _≤_, _<_, _^_}
+use mathlib.Core.Path.{_≡_, sym, ap, _∙_}
+use Prim.Native.Nat.{ℕ, _*_, _≤_, _<_, _^_}
 use native.Mathlib.Omega.{arith}
 use borrow.Author.Needs.{needs}
 use Rattle.digits.specs.Digits.{digits}
@@ -11,17 +11,26 @@ use Rattle.printed_parts.proofs.trimmed.Statement.{statement}
 use Rattle.printed_parts.proofs.trimmed.Tie as tie
 
 -- six zeros at the end
-six : (n : ℕ) → n % 1000000 ≡ 0 → trim (digits 9 n) ≡ trim (digits 3 (n / 1000000))
-six n h = let e : n ≡ n / 1000000 * 1000000 = omega arith in ap (λ x. trim (digits 9 x)) e ∙ trim-zeros 6 3 (n / 1000000)
+six : (n k : ℕ) → k * 1000000 ≡ n → trim (digits 9 n) ≡ trim (digits 3 k)
+six n k h = ap (λ x. trim (digits 9 x)) (sym h) ∙ trim-zeros 6 3 k
 
 abbrev Inv-loop : tie.InvT-loop
-Inv-loop nanos width₀ value₀ width value = (width ≤ 9) × (value < 2 ^ 30) × (trim (digits 9 nanos) ≡ trim (digits width value))
+Inv-loop nanos width₀ value₀ millis width value = (width ≤ 9) × (value < 2 ^ 30) × (trim (digits 9 nanos) ≡ trim (digits width value))
 
 abbrev μ-loop : tie.MeasureT-loop
-μ-loop nanos width₀ value₀ width value = width
+μ-loop nanos width₀ value₀ millis width value = width
+
+mul-millis : tie.Need-mul-millis Inv-loop μ-loop
+mul-millis c = search needs
+
+cast-millis : tie.Need-cast-millis Inv-loop μ-loop
+cast-millis c = search needs
+
+mul-if1 : tie.Need-mul-if1 Inv-loop μ-loop
+mul-if1 c = search needs
 
 loop-holds : tie.Need-loop-holds Inv-loop μ-loop
-loop-holds c = ⊎-elim (λ w. (omega arith, omega arith, rw (w .1, w .2) (six _ (w .0 .taken)))) (λ w. (omega arith, omega arith, rw (w .1, w .2))) (c .if1 .came)
+loop-holds c = ⊎-elim (λ w. (omega arith, omega arith, rw (w .1, w .2) (six (c .before .args .nanos) _ (w .0 .taken)))) (λ w. (omega arith, omega arith, rw (w .1, w .2))) (c .if1 .came)
 
 split-last-digit-requires : tie.Need-split-last-digit-requires Inv-loop μ-loop
 split-last-digit-requires c κs = omega arith
@@ -55,6 +64,9 @@ trimmed-spec =
     (tie.spec
     Inv-loop
     μ-loop
+    mul-millis
+    cast-millis
+    mul-if1
     loop-holds
     split-last-digit-requires
     behind-point-requires
