@@ -100,7 +100,7 @@ fn trimmed(nanos: u32) -> Part
 {
     let mut width = 9;
     let mut value = nanos;
-    // Whole milliseconds, and whole seconds, end in six zeros: the product and the shift count them, and the test tells the others.
+    // Whole milliseconds, and whole seconds, end in six zeros. The product and the shift are their number; the test tells whether they are whole.
     let millis = (nanos as u64 * 4295 >> 32) as u32;
     if millis * 1000000 == nanos {
         width = 3;
