@@ -3,7 +3,7 @@ use mathlib.Core.Path.{_≡_, refl, subst}
 use Prim.Native.Nat.{ℕ, zero, suc, _+_, _-_, _*_, _/_, _%_, _^_, _<_}
 use native.Mathlib.Decide.{decLt}
 use native.Mathlib.Omega.{arith}
-use lib.Dec.{eqb, eqb→eq, lit<, lit≤}
+use lib.Dec.{eqb, eqb→eq, lit<}
 use Rattle.digits.specs.Digits.{digits}
 use Rattle.digits.proofs.Product.{split-by-product}
 use Rattle.calendar.proofs.Table.{below}
@@ -12,7 +12,7 @@ use Rattle.demands.specs.DigitsOff.{shifted, digitsOff}
 -- The product and the shift are a tenth of every number below 2^30;
 pub exact-below-2^30 : (n : ℕ) → n < 2 ^ 30 → shifted n ≡ n / 10
 unfolding shifted
-exact-below-2^30 n h = split-by-product 10 429496730 (2 ^ 32) 4 (2 ^ 30) n (lit< tt) (lit< tt) refl (lit≤ tt) h .0
+exact-below-2^30 n h = split-by-product 10 429496730 (2 ^ 32) 4 n (lit< tt) (lit< tt) refl (omega arith) .0
 
 -- of those from 2^30 to 1,073,741,828 too, each of which is computed;
 pub exact-from-2^30 : (k : ℕ) → k < 5 → shifted (2 ^ 30 + k) ≡ (2 ^ 30 + k) / 10

@@ -6,7 +6,7 @@ use Prim.Native.Nat.{ℕ, zero, suc, _+_, _-_, _*_, _/_, _^_}
 unfoldable pub shifted : ℕ → ℕ
 shifted n = n * 429496730 / 2 ^ 32
 
--- w digits, the last first: what is shifted stays, and what ten times it lacks of n comes off
+-- w digits, of which the last comes off first: it is what ten times the shifted product lacks of n
 unfoldable pub digitsOff : ℕ → ℕ → List ℕ
 digitsOff zero n = []
 digitsOff (suc w) n = digitsOff w (shifted n) ++ ((48 + (n - shifted n * 10)) ∷ [])

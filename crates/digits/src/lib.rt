@@ -35,6 +35,27 @@ fn split_last_pair(n: u32) -> SplitPair
     SplitPair { rest, pair }
 }
 
+pub(crate) struct SplitNine {
+    pub rest: u32,
+    pub nine: u32,
+}
+
+// Where nine come off a larger number: 2305843009 is 2^61 / 10^9, rounded down, so that the product may be one too small.
+fn split_last_nine(n: u64) -> SplitNine
+    requires { ⌜ n < 10 ^ 18 ⌝ }
+    ensures { λ r. ⌜ (r .rest ≡ n / 10 ^ 9) × (r .nine ≡ n % 10 ^ 9) ⌝ }
+{
+    let rest = ((n >> 29) * 2305843009 >> 32) as u32;
+    let nine = (n - rest as u64 * 1000000000) as u32;
+    if nine < 1000000000 {
+        return SplitNine { rest, nine };
+    }
+    SplitNine {
+        rest: rest + 1,
+        nine: nine - 1000000000,
+    }
+}
+
 // Two digits as one number of 16 bits, so that a single store writes them: the first digit in the low byte, and 48, the byte of `0`, in both.
 fn put_pair(s: &mut [u8], at: usize, n: u32)
     requires { ⌜ (at + 2 ≤ length (now s)) × (n < 100) ⌝ }
@@ -82,14 +103,14 @@ pub fn put_number(s: &mut [u8], at: usize, width: usize, n: u64)
         put_digits(s, at, width, n as u32);
         return;
     }
-    let low = (n % 1000000000) as u32;
+    let split = split_last_nine(n);
     if width <= 9 {
-        put_digits(s, at, width, low);
+        put_digits(s, at, width, split.nine);
         return;
     }
     let lead = width - 9;
-    put_digits(s, at, lead, (n / 1000000000) as u32);
-    put_digits(s, at + lead, 9, low);
+    put_digits(s, at, lead, split.rest);
+    put_digits(s, at + lead, 9, split.nine);
 }
 
 // A separator and two digits, from at on.
@@ -98,7 +119,7 @@ pub fn put_field(s: &mut [u8], at: usize, separator: u8, n: u8)
     ensures { λ _. ⌜ now (s .exit) ≡ sets (now (s .entry)) at (field separator n) ⌝ }
 {
     s[at] = separator;
-    // Below 100, as every field of a moment is, no remainder is asked.
+    // Below 100, as every field of a moment is, the number is its own pair.
     if n < 100 {
         put_pair(s, at + 1, n as u32);
         return;

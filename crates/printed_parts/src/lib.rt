@@ -100,7 +100,7 @@ fn trimmed(nanos: u32) -> Part
 {
     let mut width = 9;
     let mut value = nanos;
-    // Whole milliseconds, and whole seconds, end in six zeros. The product and the shift are their number; the test tells whether they are whole.
+    // Whole milliseconds, and whole seconds, end in six zeros. 4295 is 2^32 / 1000000, rounded up: the product finds the whole ones, and the test tells them.
     let millis = (nanos as u64 * 4295 >> 32) as u32;
     if millis * 1000000 == nanos {
         width = 3;

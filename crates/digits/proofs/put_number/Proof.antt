@@ -43,8 +43,8 @@ same-length-3 c = search needs
 returns-3 : tie.Need-returns-3
 returns-3 c = search needs
 
-cast-low : tie.Need-cast-low
-cast-low c = search needs
+split-last-nine-requires : tie.Need-split-last-nine-requires
+split-last-nine-requires c κs = search needs
 
 put-digits-requires-4 : tie.Need-put-digits-requires-4
 put-digits-requires-4 c κs = search needs
@@ -53,13 +53,10 @@ same-length-4 : tie.Need-same-length-4
 same-length-4 c = search needs
 
 returns-4 : tie.Need-returns-4
-returns-4 c = c .before .before .put-digits4 .ensures ∙ rw (digits-low (c .before .before .before .before .before .before .before .args .width) 9 (c .before .before .before .before .before .before .before .args .n) (c .before .before .before .before .if4 .taken))
+returns-4 c = c .before .before .put-digits4 .ensures ∙ rw (c .before .before .before .before .before .split-last-nine .ensures .1, digits-low (c .before .before .before .before .before .before .before .before .args .width) 9 (c .before .before .before .before .before .before .before .before .args .n) (c .before .before .before .before .if4 .taken))
 
 sub-lead : tie.Need-sub-lead
 sub-lead c = search needs
-
-cast-put-digits-4 : tie.Need-cast-put-digits-4
-cast-put-digits-4 c = search needs
 
 put-digits-requires-5 : tie.Need-put-digits-requires-5
 put-digits-requires-5 c κs = search needs
@@ -74,7 +71,10 @@ same-length-5 : tie.Need-same-length-5
 same-length-5 c = search needs
 
 returns-5 : tie.Need-returns-5
-returns-5 c = let h = c .before .before .before .before .before .before .before .before .if4 .left in c .before .before .put-digits6 .ensures ∙ rw (c .before .before .before .before .before .before .put-digits5 .ensures, digits-split 9 (c .before .before .before .before .before .before .before .before .before .before .before .args .width) (c .before .before .before .before .before .before .before .before .before .before .before .args .n) (omega arith), sets-append, digits-length)
+returns-5 c =
+    let h = c .before .before .before .before .before .before .before .before .if4 .left in
+    let e = c .before .before .before .before .before .before .before .before .before .split-last-nine .ensures in
+    c .before .before .put-digits6 .ensures ∙ rw (c .before .before .before .before .before .before .put-digits5 .ensures, e .0, e .1, digits-split 9 (c .before .before .before .before .before .before .before .before .before .before .before .before .args .width) (c .before .before .before .before .before .before .before .before .before .before .before .before .args .n) (omega arith), sets-append, digits-length)
 
 pub put-number-spec : {M : Type 1} → statement M
 put-number-spec =
@@ -92,12 +92,11 @@ put-number-spec =
     put-digits-requires-3
     same-length-3
     returns-3
-    cast-low
+    split-last-nine-requires
     put-digits-requires-4
     same-length-4
     returns-4
     sub-lead
-    cast-put-digits-4
     put-digits-requires-5
     add-put-digits
     put-digits-requires-6

@@ -2,14 +2,14 @@
 use mathlib.Core.Path.{refl}
 use Prim.Native.Nat.{_^_}
 use native.Mathlib.Omega.{arith}
-use lib.Dec.{lit<, lit≤}
+use lib.Dec.{lit<}
 use borrow.Author.Needs.{needs}
 use Rattle.digits.proofs.Product.{split-by-product}
 use Rattle.digits.proofs.split_last_pair.Statement.{statement}
 use Rattle.digits.proofs.split_last_pair.Tie as tie
 
 returns : tie.Need-returns
-returns c = split-by-product 100 _ _ 4 (2 ^ 30) (c .args .n) (lit< tt) (lit< tt) refl (lit≤ tt) (omega arith)
+returns c = split-by-product 100 _ (2 ^ 32) 4 (c .args .n) (lit< tt) (lit< tt) refl (omega arith)
 
 mul-rest : tie.Need-mul-rest
 mul-rest c = search needs
