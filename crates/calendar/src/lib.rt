@@ -1,9 +1,11 @@
 // The calendar: dates from days and days from dates. The names are those of date_time.rs in the Rust.
+#![tactic(auto)]
+
 ghost use Rattle.std.specs.Prelude.{◌≡◌, ◌+◌, ◌-◌, ◌/◌, ◌≤◌, ◌<◌, leb, nat_abs, pos, ◌+ℤ◌, ◌-ℤ◌, ◌*ℤ◌};
 ghost use Rattle.calendar.specs.Walk.{is_leap, month_row, month_length, Valid, date, walk};
 ghost use Rattle.calendar.specs.Closed.{year_length, year_start, sum_to, day_of_year, day_number, InCycle, InYear};
 
-#[derive(Drop)]
+#[derive(Clone, Copy)]
 pub struct Date {
     pub year: i64,
     pub month: u8,
@@ -80,7 +82,7 @@ fn month_at_doy(leap: bool, doy: u32) -> usize
     ((even * 67 + 30) / 2048) as usize
 }
 
-#[derive(Drop)]
+#[derive(Clone, Copy)]
 pub struct MonthDay {
     pub month: u8,
     pub day: u8,
@@ -118,7 +120,7 @@ pub fn days_from_year_0(year: i64) -> i64
 }
 
 // A year of the 400-year cycle, and the day of that year, from 0.
-#[derive(Drop)]
+#[derive(Clone, Copy)]
 pub struct YearDay {
     pub year: u32,
     pub day: u32,

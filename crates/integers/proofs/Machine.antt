@@ -1,9 +1,9 @@
 -- What the machine's signed operations ask for and leave behind, and the rules by which `omega` answers it.
 use Rattle.std.proofs.Common.{◌≡◌, ℕ, suc, ◌+◌, ◌-◌, ◌*◌, ◌/◌, ◌%◌, ◌^◌, ◌<◌, ◌≤◌, max, Bool, true, false, T, ltb, ℤ, pos, negsuc, ◌+ℤ◌, ◌-ℤ◌, ◌*ℤ◌, nat_abs, sym, ap, ◌∙◌, subst, mul-le-mul_right, arith, lit≤, ltb→lt, w8, w16, w32, w64, Fits, SFits, to_z, of_z, le-ltb}
-use lib.Signed.{mag, lt_z, non_neg, quot_z, rem_z, mag_rem, pos-nat_abs}
+use lib.Signed.{mag, lt_z, non_neg, quot_z, rem_z, pos-nat_abs}
 use mir.Syntax.{Width, w128}
 use mir.Val.{sel, hbits, bits}
-use mir.ValLaws.{to_z-of_z, to_z_pos, sfits_le}
+use mir.ValLaws.{to_z-of_z, to_z_pos}
 use Rattle.integers.proofs.Signed.{plus, minus, Is, apart, size_law, eq_z, plus≡, minus≡, add_law, diff_law, times_law, quot_law, rem_law, lt_true, lt_false, true_lt, false_lt}
 
 -- ---- ranges

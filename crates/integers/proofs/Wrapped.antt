@@ -1,5 +1,5 @@
 -- Two's complement in exact integers: a wrapped number is the number but for whole turns of 2^64.
-use Rattle.std.proofs.Common.{◌≡◌, ℕ, suc, ◌+◌, ◌-◌, ◌*◌, ◌/◌, ◌%◌, ◌^◌, ◌<◌, ◌≤◌, ℤ, pos, negsuc, ◌+ℤ◌, ◌-ℤ◌, sym, ap, ◌∙◌, subst, arith, w64, SFits, to_z, of_z}
+use Rattle.std.proofs.Common.{◌≡◌, ℕ, suc, ◌+◌, ◌*◌, ◌/◌, ◌%◌, ◌^◌, ◌<◌, ◌≤◌, ℤ, pos, negsuc, ◌+ℤ◌, ◌-ℤ◌, sym, ap, ◌∙◌, subst, arith, w64, SFits, to_z, of_z}
 use native.Mathlib.Decide.{dec_lt}
 use mir.ValLaws.{to_z-of_z, to_z-Fits}
 use Rattle.integers.specs.Integers.{Floor, floor_div, floor_mod, wrapped}

@@ -1,4 +1,6 @@
 // Signed numbers: quotients that round down, sums that may leave i64, and two's complement.
+#![tactic(auto)]
+
 ghost use Rattle.std.specs.Prelude.{◌≡◌, ◌+◌, ◌*◌, ◌^◌, ◌<◌, pos, negsuc, ◌+ℤ◌, ◌-ℤ◌, ◌<ℤ◌, nat_lt};
 ghost use Rattle.std.specs.Int.{w64};
 ghost use Rattle.std.proofs.Common.{of_z, to_z};
@@ -12,7 +14,7 @@ const TOP: i64 = 9223372036854775807;
 const HALF: u64 = 9223372036854775808;
 
 // An exact result that an i64 holds, or none.
-#[derive(Drop)]
+#[derive(Clone, Copy)]
 pub enum Checked {
     Exact(i64),
     Outside,
@@ -100,7 +102,7 @@ fn negative(x: u64) -> i64
 }
 
 // A quotient that rounds down, and the rest.
-#[derive(Drop)]
+#[derive(Clone, Copy)]
 pub struct Parts {
     pub quotient: i64,
     pub rest: u64,

@@ -1,16 +1,13 @@
 -- Moments: counts of seconds and moments are one to one, and an earlier count is an earlier moment.
-use mathlib.Core.Path.{◌≡◌, refl, sym, ap, subst, ◌∙◌}
-use mathlib.Core.Bool.{true}
+use mathlib.Core.Path.{◌≡◌, refl, sym, ap, ◌∙◌}
 use Prim.Native.Nat.{ℕ, ◌+◌, ◌*◌, ◌/◌, ◌%◌, ◌^◌, ◌≤◌, ◌<◌}
 use native.Mathlib.Omega.{arith}
-use lib.Dec.{T}
-use lib.IntN.{ℤ, pos, negsuc, nat_abs, ◌+ℤ◌, ◌-ℤ◌, ◌*ℤ◌}
-use lib.Signed.{◌<ℤ◌, le_z}
+use lib.IntN.{ℤ, pos, nat_abs, ◌+ℤ◌, ◌-ℤ◌, ◌*ℤ◌}
+use lib.Signed.{◌<ℤ◌}
 use mir.Syntax.{w64}
 use mir.Val.{SFits}
-use borrow.Author.Tests.{leb-true}
 use Rattle.integers.specs.Integers.{Floor, floor_div, floor_mod}
-use Rattle.integers.proofs.Signed.{plus, minus, apart, size_law, add_law, diff_law, times_law, Tri, before, same, after, tri}
+use Rattle.integers.proofs.Signed.{apart, size_law, add_law, diff_law, times_law, Tri, before, same, after, tri}
 use Rattle.integers.proofs.Machine.{two}
 use Rattle.integers.proofs.Floor.{floor_law, floor_one, floor_order, splits, to_floor}
 use Rattle.calendar.specs.declared.Date.{Date}

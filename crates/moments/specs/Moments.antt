@@ -1,7 +1,6 @@
 -- A moment is a date and a time of day; seconds count from 1970-01-01 00:00:00.
 use Rattle.std.specs.Prelude.{◌≡◌, ℕ, ◌+◌, ◌*◌, ◌/◌, ◌%◌, ◌≤◌, ◌<◌, ℤ, pos, ◌+ℤ◌, ◌*ℤ◌}
 use Rattle.integers.specs.Integers.{floor_div, floor_mod}
-use Rattle.calendar.specs.declared.Date.{Date}
 use Rattle.moments.specs.declared.Moment.{Moment}
 use Rattle.moments.specs.declared.Time.{Time}
 use Rattle.calendar.specs.Walk.{walk, Earlier}

@@ -1,4 +1,6 @@
 // Moments: dates and times of day from counts, and counts from them. The names are those of date_time.rs in the Rust.
+#![tactic(auto)]
+
 ghost use Rattle.std.specs.Prelude.{◌≡◌, ◌≤◌, ◌<◌, nat_abs, pos, ◌+ℤ◌, ◌-ℤ◌};
 ghost use Rattle.integers.specs.Integers.{Floor, checked};
 ghost use Rattle.calendar.specs.Walk.{Valid};
@@ -9,14 +11,14 @@ use integers::{
     Checked, Parts, add_parts, checked_add, checked_sub, floor_join, floor_split, sub_parts,
 };
 
-#[derive(Drop)]
+#[derive(Clone, Copy)]
 pub struct Time {
     pub hour: u8,
     pub minute: u8,
     pub second: u8,
 }
 
-#[derive(Drop)]
+#[derive(Clone, Copy)]
 pub struct Moment {
     pub date: Date,
     pub time: Time,
@@ -28,6 +30,7 @@ const CYCLE_SECS: u64 = 12622780800;
 // The seconds from year 0 to 1970.
 const SECS_TO_1970: i64 = 62167219200;
 
+#[tactic(auto, unfolding(crate::specs::Moments::time_of_day))]
 fn time_at(second: u32) -> Time
     requires { second < 86400 }
     ensures { result ≡ time_of_day second }
@@ -67,6 +70,7 @@ pub fn secs_to_date_time(seconds: i64, epoch: i64) -> Moment
     Moment { date, time }
 }
 
+#[tactic(auto, unfolding(crate::specs::Moments::second_of_day))]
 fn second_of_day(t: Time) -> u64
     requires { ValidTime t }
     ensures { result ≡ second_of_day t }
