@@ -4,7 +4,7 @@ ghost use Rattle.counts.specs.Constants.{said_constants, ends, named_epochs};
 
 use crate::{Epoch, TaiTime};
 
-#[derive(Drop)]
+#[derive(Clone, Copy)]
 pub struct Constants {
     pub start: TaiTime,
     pub earliest: TaiTime,

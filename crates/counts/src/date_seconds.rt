@@ -10,7 +10,7 @@ use integers::Checked;
 use moments::{Moment, Time};
 
 // Seconds of calendar fields, or their refusal.
-#[derive(Drop)]
+#[derive(Clone, Copy)]
 pub enum SecsAnswer {
     At(i64),
     Refused(DateTimeError),

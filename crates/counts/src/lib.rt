@@ -1,4 +1,6 @@
 // Timestamps, durations, and every entry on their counts. The names are those of lib.rs in the Rust.
+#![tactic(auto)]
+
 mod constants; // what the constants are
 mod date_seconds; // calendar fields to a count
 
@@ -18,15 +20,15 @@ use seconds::Counted;
 pub use seconds::{UnixAnswer, UnixSeconds};
 
 // A reference that seconds count from, in seconds from 1970-01-01 00:00:00 TAI.
-#[derive(Drop)]
+#[derive(Clone, Copy)]
 pub struct Epoch(pub i64);
 
 // TAI minus UTC, in seconds.
-#[derive(Drop)]
+#[derive(Clone, Copy)]
 pub struct LeapOffset(pub i64);
 
 // Seconds from an epoch, and nanoseconds that count forward from there.
-#[derive(Drop)]
+#[derive(Clone, Copy)]
 pub struct TaiTime {
     pub secs: i64,
     pub nanos: u32,
@@ -47,13 +49,13 @@ impl Epoch {
     pub const TAI_1972_TIME: Epoch = Epoch(63072000);
 }
 
-#[derive(Drop)]
+#[derive(Clone, Copy)]
 pub enum TimeAnswer {
     At(TaiTime),
     Refused(CountError),
 }
 
-#[derive(Drop)]
+#[derive(Clone, Copy)]
 pub enum DateTimeAnswer {
     At(TaiTime),
     Refused(DateTimeError),

@@ -3,7 +3,6 @@ use Rattle.std.specs.Prelude.{ℕ, ℤ}
 use Rattle.errors.specs.Refusals.{Outcome, refuses, of_date_time}
 use Rattle.errors.specs.declared.DateTimeError.TheVariants.{InvalidMonth, InvalidDayOfMonth, InvalidHour, InvalidMinute, InvalidSecond, InvalidNanosecond}
 use Rattle.dates.specs.declared.BadField.{BadField}
-use Rattle.dates.specs.declared.BadField.TheVariants as BadField
 
 -- a field that is refused, or, where none is, what comes then
 abbrev pub said_field : BadField → ℕ → ℕ → ℕ → ℕ → ℕ → ℕ → Outcome ℤ → Outcome ℤ

@@ -1,4 +1,6 @@
 // The rules on calendar fields.
+#![tactic(auto)]
+
 ghost use Rattle.std.specs.Prelude.{◌≡◌, ℤ};
 ghost use Rattle.errors.specs.Refusals.{Outcome, refuses, of_date_time};
 ghost use Rattle.errors.specs.declared.DateTimeError.TheVariants.{OutOfRange};
@@ -8,7 +10,7 @@ ghost use Rattle.dates.specs.Dates.{fields_checked};
 use errors::DateTimeError;
 
 // The calendar field that is refused first, in 01's order.
-#[derive(Drop)]
+#[derive(Clone, Copy)]
 pub enum BadField {
     None,
     Month,

@@ -1,4 +1,6 @@
 // The front of a text, and decimal digits read.
+#![tactic(auto)]
+
 ghost use Rattle.std.specs.Prelude.{◌≡◌, true, ◌+◌, ◌≤◌, length, drop, get_or};
 ghost use Rattle.decimals.specs.Numbers.{begins_with, is_digit, pair_at, number};
 
@@ -16,12 +18,13 @@ pub fn skip(s: &[u8], n: usize) -> &[u8]
 }
 
 // Bad: no number, or one above the limit.
-#[derive(Drop)]
+#[derive(Clone, Copy)]
 pub enum Number {
     Value(u64),
     Bad,
 }
 
+#[tactic(auto, unfolding(crate::specs::Numbers::is_digit))]
 pub fn is_digit(byte: u8) -> bool
     ensures { result ≡ is_digit byte }
 {
@@ -31,7 +34,7 @@ pub fn is_digit(byte: u8) -> bool
 // Two digits at a place, as a number.
 pub fn pair(s: &[u8], at: usize) -> u8
     requires at_in_bounds { at + 2 ≤ length s.now }
-    requires at_value { (is_digit (get_or s.now at 0) ≡ true) × (is_digit (get_or s.now (at + 1) 0) ≡ true) }
+    requires digits { (is_digit (get_or s.now at 0) ≡ true) × (is_digit (get_or s.now (at + 1) 0) ≡ true) }
     ensures { result ≡ pair_at s.now at }
 {
     (s[at] - b'0') * 10 + (s[at + 1] - b'0')

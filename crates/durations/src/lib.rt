@@ -1,4 +1,6 @@
 // Timestamps and durations on the exact nanosecond.
+#![tactic(auto)]
+
 ghost use Rattle.std.specs.Prelude.{◌≡◌};
 ghost use Rattle.seconds.specs.Said.{said_counted};
 ghost use Rattle.durations.specs.Said.{said_duration, said_ordering};
@@ -9,26 +11,26 @@ use integers::{to_bits, wrapping_add_unsigned, wrapping_sub_unsigned};
 use seconds::Counted;
 use std::num::wrapping_sub_u64;
 
-#[derive(Drop)]
+#[derive(Clone, Copy)]
 pub struct Duration {
     pub secs: u64,
     pub nanos: u32,
 }
 
-#[derive(Drop)]
+#[derive(Clone, Copy)]
 pub enum DurationAnswer {
     Lasts(Duration),
     Refused(CountError),
 }
 
-#[derive(Drop)]
+#[derive(Clone, Copy)]
 pub enum Ordering {
     Less,
     Equal,
     Greater,
 }
 
-#[derive(Drop)]
+#[derive(Clone, Copy)]
 pub enum OrderingAnswer {
     Is(Ordering),
     Refused(CountError),

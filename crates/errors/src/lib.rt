@@ -1,10 +1,12 @@
 // The refusals of document 01's table.
+#![tactic(auto)]
+
 mod refusal;
 
 pub use refusal::Refusal;
 
 // Refusals 0 to 6: a date or a time of day that does not exist, or that no count reaches.
-#[derive(Drop)]
+#[derive(Clone, Copy)]
 pub enum DateTimeError {
     InvalidMonth(u8),
     InvalidDayOfMonth(u8),
@@ -16,7 +18,7 @@ pub enum DateTimeError {
 }
 
 // Refusals 7 to 9: a text that is no timestamp; or its date's refusal.
-#[derive(Drop)]
+#[derive(Clone, Copy)]
 pub enum ParseDateTimeError {
     MissingField,
     InvalidFieldWidth,
@@ -25,14 +27,14 @@ pub enum ParseDateTimeError {
 }
 
 // Refusals 10 and 11: a result that is no timestamp or duration, or nanoseconds that are none.
-#[derive(Drop)]
+#[derive(Clone, Copy)]
 pub enum CountError {
     NotRepresentable,
     BadNanos,
 }
 
 // Refusals 11 to 13: nanoseconds that are none, or a line that has no place for the text; the last tells the text's length.
-#[derive(Drop)]
+#[derive(Clone, Copy)]
 pub enum PrintError {
     BadNanos,
     StartOutside,

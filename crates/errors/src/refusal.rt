@@ -6,7 +6,7 @@ ghost use Rattle.errors.specs.Told.{marked, told};
 use crate::{CountError, DateTimeError, ParseDateTimeError, PrintError};
 
 // Its number, whether it arrived inside a RangeError, and its value if it has one.
-#[derive(Drop)]
+#[derive(Clone, Copy)]
 pub struct Refusal {
     pub number: u8,
     pub in_range_error: bool,

@@ -10,7 +10,6 @@ use Rattle.errors.specs.declared.ParseDateTimeError.TheVariants.{InvalidFieldWid
 use Rattle.fields.specs.Fields.{unless, width, behind, two_digits}
 use Rattle.fields.specs.declared.Delimiter.{Delimiter}
 use Rattle.fields.specs.declared.Field.{Field}
-use Rattle.fields.specs.declared.Field.TheVariants as Field
 
 got_two : (n : ℕ) (f : Field) {v : ℕ} (b : Bool) → eqb n 2 ≡ b → unless b (Field.Refused InvalidFieldWidth) f ≡ Field.Got v → n ≡ 2
 got_two n f true e h = eqb-true n 2 e

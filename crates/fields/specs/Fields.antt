@@ -5,9 +5,7 @@ use Rattle.decimals.specs.Numbers.{all_digits, decimal, number, on_number}
 use Rattle.fields.specs.declared.Delimiter.{Delimiter}
 use Rattle.fields.specs.declared.Delimiter.TheVariants.{Hyphen, SpaceOrT, Colon, Point}
 use Rattle.fields.specs.declared.Field.{Field}
-use Rattle.fields.specs.declared.Field.TheVariants as Field
 use Rattle.fields.specs.declared.Seconds.{Seconds}
-use Rattle.fields.specs.declared.Seconds.TheVariants as Seconds
 
 -- what comes next, refused unless the test holds
 abbrev pub unless : {A : Type 0} → Bool → A → A → A

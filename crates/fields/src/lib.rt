@@ -1,10 +1,12 @@
 // The fields of a text: what stands before a delimiter.
+#![tactic(auto)]
+
 ghost use Rattle.std.specs.Prelude.{◌≡◌, ◌≤◌, length};
 ghost use Rattle.fields.specs.Fields.{is_delimiter, width, two_digits, fraction, seconds};
 
 use errors::ParseDateTimeError;
 
-#[derive(Drop)]
+#[derive(Clone, Copy)]
 pub enum Delimiter {
     Hyphen,
     SpaceOrT,
@@ -13,7 +15,7 @@ pub enum Delimiter {
 }
 
 // Got: its delimiter follows. Last: the text ends behind it.
-#[derive(Drop)]
+#[derive(Clone, Copy)]
 pub enum Field {
     Got(u8),
     Last(u8),
@@ -21,12 +23,13 @@ pub enum Field {
 }
 
 // The seconds and their nanoseconds.
-#[derive(Drop)]
+#[derive(Clone, Copy)]
 pub enum Seconds {
     Got(u8, u32),
     Refused(ParseDateTimeError),
 }
 
+#[tactic(auto, unfolding(crate::specs::Fields::is_delimiter))]
 pub fn is_delimiter(delimiter: Delimiter, byte: u8) -> bool
     ensures { result ≡ is_delimiter delimiter byte }
 {
@@ -41,7 +44,7 @@ pub fn is_delimiter(delimiter: Delimiter, byte: u8) -> bool
 // How many bytes stand before the first delimiter.
 pub fn find(s: &[u8], delimiter: Delimiter) -> usize
     ensures value { result ≡ width delimiter s.now }
-    ensures upper_bound { result ≤ length s.now }
+    ensures within { result ≤ length s.now }
 {
     let mut i = 0;
     while i < s.len() {

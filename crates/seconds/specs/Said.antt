@@ -2,7 +2,6 @@
 use Rattle.std.specs.Prelude.{ℕ, ℤ}
 use Rattle.errors.specs.Refusals.{Outcome, gives, refuses, of_count}
 use Rattle.seconds.specs.declared.Counted.{Counted}
-use Rattle.seconds.specs.declared.Counted.TheVariants as Counted
 use Rattle.seconds.specs.declared.UnixAnswer.{UnixAnswer}
 use Rattle.seconds.specs.declared.UnixAnswer.TheVariants as Unix
 

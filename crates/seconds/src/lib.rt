@@ -1,4 +1,6 @@
 // Counts from one reference to another, refused where the exact result is no i64. The Rust also refuses where only a partial sum is none.
+#![tactic(auto)]
+
 ghost use Rattle.std.specs.Prelude.{◌≡◌};
 ghost use Rattle.seconds.specs.Said.{said_counted, said_unix};
 ghost use Rattle.seconds.specs.Counts.{from_unix, to_unix, over_epoch};
@@ -7,17 +9,17 @@ use errors::CountError;
 use integers::{Checked, checked_sum};
 
 // A count of Unix seconds.
-#[derive(Drop)]
+#[derive(Clone, Copy)]
 pub struct UnixSeconds(pub i64);
 
 // Seconds and nanoseconds of a result, or its refusal.
-#[derive(Drop)]
+#[derive(Clone, Copy)]
 pub enum Counted {
     At(i64, u32),
     Refused(CountError),
 }
 
-#[derive(Drop)]
+#[derive(Clone, Copy)]
 pub enum UnixAnswer {
     At(UnixSeconds),
     Refused(CountError),
