@@ -1,9 +1,11 @@
 // Decimal digits, written as bytes.
+#![tactic(auto)]
+
 ghost use Rattle.std.specs.Prelude.{◌≡◌, ◌+◌, ◌/◌, ◌%◌, ◌^◌, ◌≤◌, ◌<◌, length};
 ghost use Rattle.std.proofs.lemmas.List.Edits.{sets};
 ghost use Rattle.digits.specs.Digits.{digits, field};
 
-#[derive(Drop)]
+#[derive(Clone, Copy)]
 pub struct Split {
     pub rest: u32,
     pub digit: u8,
@@ -19,7 +21,7 @@ pub fn split_last_digit(n: u32) -> Split
     Split { rest, digit }
 }
 
-#[derive(Drop)]
+#[derive(Clone, Copy)]
 pub(crate) struct SplitPair {
     pub rest: u32,
     pub pair: u32,
@@ -35,7 +37,7 @@ fn split_last_pair(n: u32) -> SplitPair
     SplitPair { rest, pair }
 }
 
-#[derive(Drop)]
+#[derive(Clone, Copy)]
 pub(crate) struct SplitNine {
     pub rest: u32,
     pub nine: u32,

@@ -10,7 +10,7 @@ use lib.Dec.{eqb}
 use lib.ListN.{length, take, drop}
 use borrow.Author.Tests.{eqb-true, eqb-false}
 use mir.Val.{bool_byte}
-use Rattle.bytes.specs.Bytes.{index_of, index_after}
+use Rattle.words.specs.Bytes.{index_of, index_after}
 use Rattle.lines.specs.Lines.{lines, in_first, others, ready, answers_to, answers}
 use Rattle.lines.specs.FirstLine.{continues, first_of}
 

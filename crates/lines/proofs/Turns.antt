@@ -10,7 +10,7 @@ use lib.ListN.{length, take, drop, length-take, length-drop, length-append, drop
 use lib.Seq.{length-take-le, take_all, take-add, take_at, drop_at, drop-drop}
 use borrow.Rule.Slice.PartMut.{mid_of, put_mid, same_len_mid}
 use borrow.Author.Tests.{le-ltb, ltb-true, ltb-false, eqb-true}
-use Rattle.bytes.specs.Bytes.{index_of}
+use Rattle.words.specs.Bytes.{index_of}
 use Rattle.lines.specs.Lines.{lines, input, ready, Done, Turn}
 use Rattle.lines.specs.FirstLine.{continues, first_of}
 use Rattle.lines.specs.declared.Answered.{Answered}

@@ -1,6 +1,6 @@
 -- For the code: the first line of some bytes, and the bytes that are left behind it.
 use Rattle.std.specs.Prelude.{Bool, List, ◌++◌, ℕ, ◌+◌, ◌-◌, min, eqb, length, drop}
-use Rattle.bytes.specs.Bytes.{index_of}
+use Rattle.words.specs.Bytes.{index_of}
 use Rattle.lines.specs.Lines.{ready}
 use Rattle.lines.specs.declared.First.{First}
 

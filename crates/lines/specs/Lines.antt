@@ -1,6 +1,6 @@
 -- The lines of an input, and what is answered to them. An input is the list of its bytes; LF is 10.
 use Rattle.std.specs.Prelude.{◌≡◌, Bool, true, cond, ◌&&◌, ◌||◌, List, [], ◌∷◌, ◌++◌, ℕ, ◌+◌, ◌<◌, ◌≤◌, min, eqb, ltb, length, take, drop}
-use Rattle.bytes.specs.Bytes.{index_of}
+use Rattle.words.specs.Bytes.{index_of}
 use Rattle.lines.specs.declared.Answered.{Answered}
 
 -- a byte in front of the first line

@@ -1,14 +1,16 @@
 // The lines of an input that comes in pieces, and its bytes that wait for their answers.
+#![tactic(auto)]
+
 ghost use Rattle.std.specs.Prelude.{◌≡◌};
 ghost use Rattle.lines.specs.Lines.{ready};
 ghost use Rattle.lines.specs.FirstLine.{first_of, moved_to_front};
-ghost use Rattle.bytes.specs.Bytes.{index_of};
+ghost use Rattle.words.specs.Bytes.{index_of};
 
-use bytes::scan::find;
+use words::scan::find;
 
 // The first line of some bytes: whether it can be answered, how many bytes decide the answer, how many are done with then,
 // and whether no LF ends it.
-#[derive(Drop)]
+#[derive(Clone, Copy)]
 pub struct First {
     pub ready: bool,
     pub length: usize,
@@ -18,7 +20,7 @@ pub struct First {
 
 // How many bytes of the input are done with, how many bytes of answers were written, and whether the line that goes on
 // behind the bytes used is answered already.
-#[derive(Drop)]
+#[derive(Clone, Copy)]
 pub struct Answered {
     pub used: usize,
     pub written: usize,
@@ -42,7 +44,7 @@ fn is_ready(s: &[u8], end: usize, ended: bool) -> bool
 pub fn first_line(s: &[u8], ended: bool) -> First
     ensures { result ≡ first_of ended s.now }
 {
-    let end = find(s, 0, s.len(), b'\n');
+    let end = find(s, b'\n');
     let continues = end == s.len();
     let ready = is_ready(s, end, ended);
     let length = if 65536 < end { 65536 } else { end };

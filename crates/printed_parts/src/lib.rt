@@ -1,4 +1,6 @@
 // The two parts of a text that vary in length, the year and the fraction: worked out before they are written.
+#![tactic(auto)]
+
 ghost use Rattle.std.specs.Prelude.{◌≡◌, ℕ, ◌+◌, ◌^◌, ◌≤◌, ◌<◌, nat_abs, length};
 ghost use Rattle.std.proofs.lemmas.List.Edits.{sets};
 ghost use Rattle.digits.specs.Digits.{digits, width};
@@ -8,14 +10,14 @@ ghost use Rattle.printed_parts.specs.Parts.{Bounded, PartOf, part_text};
 use digits::{put_number, split_last_digit};
 
 // How many digits of the fraction are printed; by default as many as it takes, and never more than nine.
-#[derive(Drop)]
+#[derive(Clone, Copy)]
 pub enum Precision {
     Default,
     Digits(usize),
 }
 
 // The last `width` digits of `value`, behind a mark or none: `-` of a year, `.` of a fraction.
-#[derive(Drop)]
+#[derive(Clone, Copy)]
 pub struct Part {
     pub marked: bool,
     pub width: usize,
@@ -32,8 +34,8 @@ pub fn part_length(p: Part) -> usize
 // The part from at on, and the place behind it.
 pub fn put_part(s: &mut [u8], at: usize, mark: u8, p: Part) -> usize
     requires { Bounded p × (at + length (part_text mark p) ≤ length s.old) }
-    ensures value { result ≡ at + length (part_text mark p) }
-    ensures s_after { s.new ≡ sets s.old at (part_text mark p) }
+    ensures behind { result ≡ at + length (part_text mark p) }
+    ensures written { s.new ≡ sets s.old at (part_text mark p) }
 {
     let width = p.width;
     let value = p.value;

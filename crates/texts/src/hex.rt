@@ -17,7 +17,7 @@ fn digit(value: u8) -> u8
 // The value of a digit, 0 of any other byte.
 fn digit_value(x: u8) -> u8
     ensures value { result ≡ digit_value x }
-    ensures upper_bound { result < 16 }
+    ensures small { result < 16 }
 {
     if x < b'0' {
         return 0;
@@ -71,8 +71,8 @@ pub fn unhex(hex: &[u8], bytes: &mut [u8]) -> usize
 // The HEX of bytes, from the place at on, and the place behind it.
 pub fn put_hex(out: &mut [u8], at: usize, bytes: &[u8]) -> usize
     requires { at + 2 * length bytes.now < length out.old }
-    ensures put { Put out.old at (hex_text bytes.now) out.new result }
-    ensures upper_bound { result ≤ at + 2 * length bytes.now + 1 }
+    ensures written { Put out.old at (hex_text bytes.now) out.new result }
+    ensures within { result ≤ at + 2 * length bytes.now + 1 }
 {
     if bytes.len() == 0 {
         out[at] = b'-';

@@ -1,4 +1,6 @@
 // Texts: compared, and written from a place on, with numbers. What writes answers with the place behind what it wrote.
+#![tactic(auto)]
+
 pub mod hex; // bytes as hexadecimal digits, read and written
 
 ghost use Rattle.std.specs.Prelude.{◌≡◌, ◌++◌, ◌+◌, ◌≤◌, length};
@@ -37,8 +39,8 @@ pub fn put(out: &mut [u8], at: usize, text: &[u8]) -> usize
 
 pub fn put_natural(out: &mut [u8], at: usize, n: u64) -> usize
     requires { at + 20 ≤ length out.old }
-    ensures put { Put out.old at (natural n) out.new result }
-    ensures upper_bound { result ≤ at + 20 }
+    ensures written { Put out.old at (natural n) out.new result }
+    ensures within { result ≤ at + 20 }
 {
     if n < 10 {
         out[at] = 48 + n as u8;
@@ -51,8 +53,8 @@ pub fn put_natural(out: &mut [u8], at: usize, n: u64) -> usize
 
 pub fn put_integer(out: &mut [u8], at: usize, n: i64) -> usize
     requires { at + 21 ≤ length out.old }
-    ensures put { Put out.old at (integer n) out.new result }
-    ensures upper_bound { result ≤ at + 21 }
+    ensures written { Put out.old at (integer n) out.new result }
+    ensures within { result ≤ at + 21 }
 {
     let bits = to_bits(n);
     if bits < 9223372036854775808 {
@@ -65,8 +67,8 @@ pub fn put_integer(out: &mut [u8], at: usize, n: i64) -> usize
 
 pub fn put_behind_blank(out: &mut [u8], at: usize, n: u64) -> usize
     requires { at + 21 ≤ length out.old }
-    ensures put { Put out.old at (bytes_of " " ++ natural n) out.new result }
-    ensures upper_bound { result ≤ at + 21 }
+    ensures written { Put out.old at (bytes_of " " ++ natural n) out.new result }
+    ensures within { result ≤ at + 21 }
 {
     out[at] = b' ';
     put_natural(out, at + 1, n)

@@ -6,7 +6,7 @@ use Prim.Native.Nat.{ℕ, zero, suc, ◌<◌, ◌≤◌}
 use native.Mathlib.Omega.{arith}
 use lib.IntN.{ℤ}
 use lib.ListN.{get_or, get_or-eq_default}
-use Rattle.bytes.specs.Bytes.{index_of, index_after}
+use Rattle.words.specs.Bytes.{index_of, index_after}
 use Rattle.words.specs.Words.{word_length, field_length, field_word, rest_at}
 use Rattle.words.specs.Tables.{epoch_names, epoch_row}
 use Rattle.words.specs.Kinds.{epoch, i64, Meaning, epochs, epoch_of, meaning}

@@ -8,7 +8,6 @@ use native.Mathlib.Omega.{arith}
 use lib.ListN.{length, drop, get_or}
 use Rattle.decimals.specs.Numbers.{begins_with, number}
 use Rattle.decimals.specs.declared.Number.{Number}
-use Rattle.decimals.specs.declared.Number.TheVariants as Number
 use Rattle.printed_parts.specs.declared.Precision.TheVariants.{Digits}
 use Rattle.texts.specs.Texts.{alike}
 use Rattle.texts.specs.Hex.{is_hex, hex_bytes}

@@ -1,21 +1,13 @@
 -- Words, one byte after the other.
-use mathlib.Core.Path.{◌≡◌, refl, ◌∙◌}
+use mathlib.Core.Path.{◌≡◌, refl}
 use mathlib.Core.Bool.{true, false}
 use mathlib.Core.List.{List, [], ◌∷◌}
 use Prim.Native.Nat.{ℕ, zero, suc, ◌+◌, ◌-◌, ◌<◌, ◌≤◌}
-use native.Mathlib.Nat.{zero-add}
 use native.Mathlib.Numerals.{sub-one}
 use native.Mathlib.Omega.{arith}
 use lib.ListN.{length, drop, length-take, length-drop}
-use lib.Seq.{take_all}
-use Rattle.bytes.specs.Bytes.{index_of, slice}
 use Rattle.decimals.specs.Numbers.{begins_with}
 use Rattle.words.specs.Words.{word_length, field_length, field_word, rest_at, word_at}
-
--- the first of a byte in all of s
-pub found : (b : ℕ) (s : List ℕ) {n : ℕ} → n ≡ 0 + index_of b (slice 0 (length s) s) → n ≡ index_of b s
-unfolding slice
-found b s e = e ∙ rw (zero-add, take_all (length s) s (omega arith))
 
 pub field_blank : (s : List ℕ) → begins_with 32 s ≡ true → 1 + word_length (drop 1 s) ≡ field_length s
 unfolding begins_with field_length

@@ -2,7 +2,6 @@
 use Rattle.std.specs.Prelude.{cond, List, [], ◌∷◌, ℕ, ℤ, pos, negsuc}
 use Prim.Native.String.{String}
 use Rattle.decimals.specs.declared.Number.{Number}
-use Rattle.decimals.specs.declared.Number.TheVariants as Number
 use Rattle.printed_parts.specs.declared.Precision.{Precision}
 use Rattle.printed_parts.specs.declared.Precision.TheVariants.{Default, Digits}
 use Rattle.texts.specs.Texts.{bytes, alike}
@@ -10,7 +9,6 @@ use Rattle.texts.specs.Hex.{is_hex, hex_bytes}
 use Rattle.words.specs.Words.{by_word}
 use Rattle.words.specs.Numbers.{unsigned, signed}
 use Rattle.words.specs.declared.numbers.Signed.{Signed}
-use Rattle.words.specs.declared.numbers.Signed.TheVariants as Signed
 
 pub data Kind : Type 0 where
   epoch : Kind

@@ -2,7 +2,6 @@
 use Rattle.std.specs.Prelude.{cond, ◌&&◌, List, ℕ, zero, suc, ◌+◌, ltb, pos, negsuc, length, drop}
 use Rattle.decimals.specs.Numbers.{begins_with, number}
 use Rattle.decimals.specs.declared.Number.{Number}
-use Rattle.decimals.specs.declared.Number.TheVariants as Number
 use Rattle.words.specs.declared.numbers.Signed.{Signed}
 use Rattle.words.specs.declared.numbers.Signed.TheVariants.{Value, Bad}
 

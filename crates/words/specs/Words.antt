@@ -1,7 +1,7 @@
 -- Words between blanks. A line is the list of its bytes, and each definition reads a list from its front.
 use Rattle.std.specs.Prelude.{cond, List, [], ◌∷◌, ℕ, zero, suc, ◌-◌, eqb, take, drop}
 use Prim.Native.String.{String}
-use Rattle.bytes.specs.Bytes.{index_of}
+use Rattle.words.specs.Bytes.{index_of}
 use Rattle.texts.specs.Texts.{bytes, alike}
 
 -- how many bytes stand before the first blank (32): all where there is none

@@ -4,7 +4,7 @@ ghost use Rattle.words.specs.Numbers.{unsigned, signed};
 
 use decimals::{Number, begins_with, parse_number, skip};
 
-#[derive(Drop)]
+#[derive(Clone, Copy)]
 pub enum Signed {
     Value(i64),
     Bad,

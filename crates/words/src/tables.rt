@@ -9,7 +9,7 @@ use texts::same;
 pub fn row_of(word: &[u8], table: &[u8], words: usize, left: usize, k: usize) -> usize
     requires { k + left ≤ 1000 }
     ensures value { result ≡ row_from «words» left k word.now table.now }
-    ensures upper_bound { result ≤ k + left }
+    ensures within { result ≤ k + left }
 {
     if left == 0 {
         return k;

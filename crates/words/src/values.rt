@@ -30,7 +30,7 @@ pub fn i32_at(s: &[u8], i: usize) -> i32
 // A number of an unsigned type whose top is the limit.
 fn natural_at(s: &[u8], limit: u64, i: usize) -> u64
     ensures value { result ≡ or_else 0 (of_number (unsigned limit (word_at i s.now))) }
-    ensures upper_bound { result ≤ limit }
+    ensures within { result ≤ limit }
 {
     match parse_unsigned(word_at(s, i), limit) {
         Number::Value(v) => v,

@@ -2,21 +2,21 @@
 ghost use Rattle.std.specs.Prelude.{◌≡◌, ◌≤◌, length};
 ghost use Rattle.words.specs.Words.{word_length, field_length, field_word, rest_at, word_at};
 
-use bytes::scan::find;
+use crate::scan::find;
 use decimals::{begins_with, skip};
 
 // How many bytes stand before the first blank.
 pub fn word_length(s: &[u8]) -> usize
     ensures value { result ≡ word_length s.now }
-    ensures upper_bound { result ≤ length s.now }
+    ensures within { result ≤ length s.now }
 {
-    find(s, 0, s.len(), b' ')
+    find(s, b' ')
 }
 
 // How many bytes the field in front has; 0 where no blank is in front.
 pub(crate) fn field_length(s: &[u8]) -> usize
     ensures value { result ≡ field_length s.now }
-    ensures upper_bound { result ≤ length s.now }
+    ensures within { result ≤ length s.now }
 {
     if begins_with(s, b' ') {
         return 1 + word_length(skip(s, 1));
