@@ -3,7 +3,7 @@ use mathlib.Core.Path.{◌≡◌, ap, sym}
 use Prim.Native.Nat.{ℕ}
 use native.Mathlib.Omega.{arith}
 use lib.IntN.{ℤ}
-use Rattle.errors.specs.Refusals.{Refusal, Outcome, gives, refuses, of_parse}
+use Rattle.errors.specs.Refusals.{Outcome, gives, of_parse}
 use Rattle.errors.specs.declared.ParseDateTimeError.{ParseDateTimeError}
 use Rattle.errors.specs.declared.ParseDateTimeError.TheVariants.{MissingField, InvalidFieldWidth, InvalidFieldValue, RangeError}
 use Rattle.errors.proofs.One.{count_one, date_time_one, parse_one}

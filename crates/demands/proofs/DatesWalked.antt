@@ -1,15 +1,14 @@
 -- A date is accepted exactly if the walk reaches it.
-use mathlib.Core.Path.{◌≡◌, refl, sym, ap, ◌∙◌, subst}
-use mathlib.Core.Bool.{Bool, true, false}
+use mathlib.Core.Path.{◌≡◌, sym, ap, ◌∙◌, subst}
+use mathlib.Core.Bool.{Bool, true}
 use mathlib.Core.List.{[]}
 use mathlib.Core.Logic.{◌↔◌}
 use Prim.Native.Nat.{ℕ, ◌<◌}
-use lib.Dec.{leb}
 use lib.IntN.{ℤ, ◌+ℤ◌, ◌-ℤ◌, +ℤ-neg_ℤ_cancel, -ℤ-+ℤ_cancel}
-use borrow.Author.Tests.{le-leb, lt-ltb, leb-true, ltb-true}
+use borrow.Author.Tests.{le-leb, lt-ltb}
 use Rattle.integers.specs.Integers.{is_i64}
-use Rattle.errors.specs.Refusals.{gives, refuses, refusal, check}
-use Rattle.errors.proofs.Outcomes.{gives_one, passed, refuses_not}
+use Rattle.errors.specs.Refusals.{gives, refusal, check}
+use Rattle.errors.proofs.Outcomes.{gives_one, passed}
 use Rattle.moments.specs.declared.Moment.{Moment}
 use Rattle.calendar.specs.Walk.{Valid, date, month_length}
 use Rattle.moments.specs.Moments.{moment_at, ValidTime, seconds_of}
@@ -28,10 +27,10 @@ one_count {epoch} {a} {b} p q =
     sym (+ℤ-neg_ℤ_cancel a epoch) ∙ ap (λ z. z -ℤ epoch) (one_moment (p.walked ∙ sym q.walked)) ∙ +ℤ-neg_ℤ_cancel b epoch
 
 -- the seconds of calendar fields, over an epoch
-abbrev count : ℤ → Moment → ℤ
+abbrev pub count : ℤ → Moment → ℤ
 count epoch m = seconds_of m -ℤ epoch
 
-count_reaches : (epoch : ℤ) (m : Moment) → Valid m.date → ValidTime m.time → moment_at (count epoch m +ℤ epoch) ≡ m
+pub count_reaches : (epoch : ℤ) (m : Moment) → Valid m.date → ValidTime m.time → moment_at (count epoch m +ℤ epoch) ≡ m
 count_reaches epoch m v t = ap moment_at (-ℤ-+ℤ_cancel (seconds_of m) epoch) ∙ moment_seconds m v t
 
 count_of : (epoch secs : ℤ) {m : Moment} → moment_at (secs +ℤ epoch) ≡ m → count epoch m ≡ secs
@@ -39,7 +38,7 @@ count_of epoch secs e = ap (λ x. seconds_of x -ℤ epoch) (sym e) ∙ ap (λ z.
 
 module _ (epoch year : ℤ) (month day hour min sec nano : ℕ) where
   -- what is left of the checks for a date that exists
-  last_check : Valid (date year month day) → ValidTime (moment year month day hour min sec).time → nano < 1000000000
+  pub last_check : Valid (date year month day) → ValidTime (moment year month day hour min sec).time → nano < 1000000000
       → (b : Bool) → is_i64 (count epoch (moment year month day hour min sec)) ≡ b
       → date_time_secs epoch year month day hour min sec nano ≡ check b (refusal 6 []) (gives (count epoch (moment year month day hour min sec)))
   unfolding date_time_secs
@@ -79,16 +78,3 @@ module _ (epoch year : ℤ) (month day hour min sec nano : ℕ) where
           let v = moment_valid (secs +ℤ epoch) in
           let c = count_of epoch secs r.walked in
           rw (last_check (subst (λ (x : Moment). Valid x.date) r.walked v.0) (subst (λ (x : Moment). ValidTime x.time) r.walked v.1) n true (ap is_i64 c ∙ r.secs_fit), c, e)
-
-  -- REFUSED WITH 6 EXACTLY IF NO COUNT REACHES IT
-  pub refused : Valid (date year month day) → ValidTime (moment year month day hour min sec).time → nano < 1000000000
-      → (from_date_time epoch year month day hour min sec nano ≡ refuses (refusal 6 [])) ↔ ((secs : ℤ) → Reaches epoch secs (moment year month day hour min sec) → ⊥)
-  unfolding from_date_time
-  refused v t n = (λ e secs r. refuses_not (sym e ∙ (accepted secs nano).1 (r, refl, n)), λ f. go (is_i64 (count epoch m)) refl f)
-    where
-      m : Moment
-      m = moment year month day hour min sec
-
-      go : (b : Bool) → is_i64 (count epoch m) ≡ b → ((secs : ℤ) → Reaches epoch secs m → ⊥) → with_nanos nano (date_time_secs epoch year month day hour min sec nano) ≡ refuses (refusal 6 [])
-      go true e f = absurd (f (count epoch m) (record { secs_fit = e; walked = count_reaches epoch m v t }))
-      go false e f = rw (last_check v t n false e)

@@ -28,7 +28,7 @@ use Rattle.printer.specs.Display.{time_text, displayed}
 use Rattle.printer.proofs.Lent.{said_one}
 use Rattle.demands.specs.Refused.{OnlyRefuses}
 use Rattle.demands.proofs.Answers.{time_one, date_time_answer_one, secs_one, unix_one, duration_one, ordering_one, read_one}
-use Rattle.demands.proofs.RefusalsOf.{new_only, from_date_only, from_unix_only, to_unix_only, over_epoch_only, added_only, taken_only, since_only, compared_only, read_only, displayed_only}
+use Rattle.demands.proofs.EntriesRefuse.{new_only, from_date_only, from_unix_only, to_unix_only, over_epoch_only, added_only, taken_only, since_only, compared_only, read_only, displayed_only}
 use Rattle.demands.proofs.TextFirst.{text_refused, read_whole}
 use Rattle.demands.proofs.Lent.{refusal_leaves, bad_nanos, start_outside, no_room}
 

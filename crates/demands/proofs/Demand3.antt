@@ -3,7 +3,7 @@
 use mathlib.Core.Path.{◌≡◌, refl}
 use mathlib.Core.List.{List, []}
 use mathlib.Core.Logic.{◌↔◌}
-use Prim.Native.Nat.{ℕ, ◌+◌, ◌≤◌, ◌<◌}
+use Prim.Native.Nat.{ℕ, ◌≤◌, ◌<◌}
 use native.Mathlib.Omega.{arith}
 use lib.IntN.{ℤ, pos, nat_abs, ◌+ℤ◌, ◌-ℤ◌}
 use lib.ListN.{take, drop}
@@ -18,10 +18,12 @@ use Rattle.reader.specs.Stamp.{read_text, year_limit}
 use Rattle.printed_parts.specs.declared.Precision.TheVariants.{Default}
 use Rattle.printer.specs.Display.{time_text, displayed}
 use Rattle.demands.specs.Values.{I64, Timestamp, Duration, moment, Reaches, EarlierReading, Stand, Read, TimeLiesAt, DurationLiesAt}
-use Rattle.demands.proofs.DatesWalked.{accepted, refused, one_count}
+use Rattle.demands.proofs.DatesWalked.{accepted, one_count}
+use Rattle.demands.proofs.DatesUnreached.{refused}
 use Rattle.demands.proofs.ExactSums.{added_lies, taken_lies, since_lies}
 use Rattle.demands.proofs.Order.{earlier, compares, reads}
-use Rattle.demands.proofs.RoundTrip.{back, one_text}
+use Rattle.demands.proofs.RoundTrip.{back}
+use Rattle.demands.proofs.OneText.{one_text}
 use Rattle.demands.proofs.Lent.{in_line}
 
 -- ---- (a) Dates. The statements hold for every year, so for those from -2147483648 to 2147483647.
@@ -88,4 +90,4 @@ module _ (secs : ℤ) (nanos : ℕ) (epoch : ℤ) (t : Timestamp secs nanos) (wi
   -- and so does what printing has written into a line.
   pub reads_back_from_the_line : (line : List ℕ) (at n : ℕ) → (displayed secs nanos epoch Default line at).0 ≡ gives n
       → read_text year_limit epoch (take n (drop at (displayed secs nanos epoch Default line at).1)) ≡ gives (secs, nanos)
-  reads_back_from_the_line line at n e = rw (in_line secs nanos epoch Default line at e) reads_back
+  reads_back_from_the_line line at n e = rw (in_line secs nanos epoch Default line at e) (back year_limit secs nanos epoch t (omega arith) (omega arith))

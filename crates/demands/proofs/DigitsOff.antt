@@ -1,7 +1,6 @@
 -- Document 02, ask 2: a digit comes off a number by a product and a shift, and the digits are the same.
-use mathlib.Core.Path.{◌≡◌, refl, subst}
+use mathlib.Core.Path.{◌≡◌, refl}
 use Prim.Native.Nat.{ℕ, zero, suc, ◌+◌, ◌-◌, ◌*◌, ◌/◌, ◌%◌, ◌^◌, ◌<◌}
-use native.Mathlib.Decide.{dec_lt}
 use native.Mathlib.Omega.{arith}
 use lib.Dec.{eqb, eqb→eq, lit<}
 use Rattle.digits.specs.Digits.{digits}
@@ -19,14 +18,7 @@ pub exact_from_2^30 : (k : ℕ) → k < 5 → shifted (2 ^ 30 + k) ≡ (2 ^ 30 +
 unfolding shifted
 exact_from_2^30 k h = eqb→eq _ _ (below (λ k. eqb (shifted (2 ^ 30 + k)) ((2 ^ 30 + k) / 10)) 5 tt k h)
 
--- and they are first wrong at 1,073,741,829.
-pub exact_before_1073741829 : (n : ℕ) → n < 1073741829 → shifted n ≡ n / 10
-exact_before_1073741829 n h = go (dec_lt n (2 ^ 30))
-  where
-    go : Dec (n < 2 ^ 30) → shifted n ≡ n / 10
-    go (yes l) = exact_below_2^30 n l
-    go (no l) = subst (λ m. shifted m ≡ m / 10) {x = 2 ^ 30 + (n - 2 ^ 30)} {y = n} (omega arith) (exact_from_2^30 (n - 2 ^ 30) (omega arith))
-
+-- and they are first wrong at 1,073,741,829 (proofs/FirstWrong.antt: at no number before).
 pub wrong_at_1073741829 : shifted 1073741829 ≡ 1073741829 / 10 → ⊥
 unfolding shifted
 wrong_at_1073741829 e = absurd (omega (arith, e))

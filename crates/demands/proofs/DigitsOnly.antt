@@ -24,12 +24,9 @@ use Rattle.fields.specs.Fields.{unless, is_delimiter, width, delimited, behind, 
 use Rattle.fields.specs.declared.Delimiter.{Delimiter}
 use Rattle.fields.specs.declared.Delimiter.TheVariants.{Hyphen, SpaceOrT, Colon, Point}
 use Rattle.fields.specs.declared.Field.{Field}
-use Rattle.fields.specs.declared.Field.TheVariants as Field
 use Rattle.fields.specs.declared.Seconds.{Seconds}
-use Rattle.fields.specs.declared.Seconds.TheVariants as Seconds
 use Rattle.stages.specs.Text.{on_field, field, on_seconds, from_month, with_sign, from_year, without_sign, parsed}
 use Rattle.stages.specs.declared.Parsed.{Parsed}
-use Rattle.stages.specs.declared.Parsed.TheVariants as Parsed
 use Rattle.reader.specs.Stamp.{stamped, read_text}
 use Rattle.demands.specs.Values.{DigitOrDelimiter}
 use Rattle.demands.proofs.TextOrder.{bad_year_is_9, bad_field_is_9, bad_seconds_are_9}

@@ -21,7 +21,7 @@ use Rattle.demands.specs.Values.{LeavesI64, moment}
 use Rattle.demands.specs.GivenWhen as When
 use Rattle.demands.specs.GivenWhen.{DateRefused, PrintRefused}
 use Rattle.demands.proofs.DatesOrder.{month_first, day_second, hour_third, minute_fourth, second_fifth, nanosecond_sixth}
-use Rattle.demands.proofs.DatesWalked.{refused}
+use Rattle.demands.proofs.DatesUnreached.{refused}
 use Rattle.demands.proofs.NanosFirst.{first, either}
 use Rattle.demands.proofs.Lent.{bad_nanos, start_outside, no_room, printed}
 

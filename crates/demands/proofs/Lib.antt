@@ -7,12 +7,14 @@ pub mod GivenWhen
 pub mod Conversions
 pub mod WantedRoom
 pub mod DigitsOff
+pub mod FirstWrong
 pub mod TextOrder
 pub mod DigitsOnly
 pub mod Passed
 pub mod Integers
 pub mod Answers
 pub mod RefusalsOf
+pub mod EntriesRefuse
 pub mod NanosFirst
 pub mod DatesOrder
 pub mod TextFirst
@@ -20,6 +22,7 @@ pub mod Lent
 pub mod LeapRule
 pub mod WalkFacts
 pub mod DatesWalked
+pub mod DatesUnreached
 pub mod ExactSums
 pub mod Order
 pub mod DigitsBack
@@ -27,4 +30,5 @@ pub mod FractionBack
 pub mod FieldsBack
 pub mod TextBack
 pub mod RoundTrip
+pub mod OneText
 pub mod ReadingsTest

@@ -14,7 +14,7 @@ first nanos o h = rw (le-ltb nanos 1000000000 h)
 
 -- the first of two, or the second
 pub either : {A : Type 0} (nanos nanos' : ℕ) (o : Outcome A) → (1000000000 ≤ nanos) ⊎ (1000000000 ≤ nanos') → good_nanos nanos (good_nanos nanos' o) ≡ refuses (refusal 11 [])
-either {A} nanos nanos' o = ⊎_elim (first nanos (good_nanos nanos' o)) (λ h. rw (le-ltb nanos' 1000000000 h) (again (ltb nanos 1000000000)))
+either {A} nanos nanos' o = ⊎_elim (λ h. rw (le-ltb nanos 1000000000 h)) (λ h. rw (le-ltb nanos' 1000000000 h) (again (ltb nanos 1000000000)))
   where
     again : (b : Bool) → check {A = A} b (refusal 11 []) (refuses (refusal 11 [])) ≡ refuses (refusal 11 [])
     again true = refl

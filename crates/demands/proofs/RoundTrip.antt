@@ -1,21 +1,19 @@
--- What is printed by default reads back, over the same epoch; so different timestamps print differently.
-use mathlib.Core.Path.{◌≡◌, refl, sym, ap, ◌∙◌}
+-- What is printed by default reads back, over the same epoch.
+use mathlib.Core.Path.{◌≡◌, refl, ap, ◌∙◌}
 use Prim.Native.Nat.{ℕ, ◌-◌, ◌^◌, ◌≤◌, ◌<◌}
 use native.Mathlib.Omega.{arith}
 use lib.IntN.{ℤ, nat_abs, ◌+ℤ◌}
 use Rattle.errors.specs.Refusals.{gives}
-use Rattle.errors.proofs.Outcomes.{gives_one}
 use Rattle.calendar.specs.declared.Date.{Date}
 use Rattle.moments.specs.declared.Moment.{Moment}
 use Rattle.calendar.specs.Walk.{is_leap, month_length, Valid}
 use Rattle.moments.specs.Moments.{moment_at, ValidTime}
 use Rattle.calendar.proofs.Months.{month_top}
-use Rattle.moments.proofs.Moments.{moment_valid, year_within}
+use Rattle.moments.proofs.Moments.{moment_valid}
 use Rattle.reader.specs.Stamp.{inside_range_error, stamped, read_text}
 use Rattle.printed_parts.specs.declared.Precision.TheVariants.{Default}
 use Rattle.printer.specs.Display.{instant, time_text}
-use Rattle.demands.specs.Values.{I64, Timestamp}
-use Rattle.demands.proofs.Integers.{fits}
+use Rattle.demands.specs.Values.{Timestamp}
 use Rattle.demands.proofs.DatesWalked.{accepted}
 use Rattle.demands.proofs.TextBack.{Printable, text_back}
 
@@ -46,12 +44,3 @@ back limit secs nanos epoch t h k =
     let v = moment_valid (secs +ℤ epoch) in
     ap (stamped epoch) (text_back limit (instant m nanos) (printable limit m nanos v.0 v.1 h k t.nanos_to))
     ∙ ap inside_range_error ((accepted epoch m.date.year m.date.month m.date.day m.time.hour m.time.minute m.time.second nanos secs nanos).1 (record { secs_fit = t.secs_fit; walked = refl }, refl, t.nanos_to))
-
--- DIFFERENT TIMESTAMPS PRINT DIFFERENTLY: a reader of any year would give each back
-pub one_text : (epoch : ℤ) {secs secs' : ℤ} {nanos nanos' : ℕ} → I64 epoch → Timestamp secs nanos → Timestamp secs' nanos'
-    → time_text secs nanos epoch Default ≡ time_text secs' nanos' epoch Default → (secs ≡ secs') × (nanos ≡ nanos')
-one_text epoch {secs} {secs'} {nanos} {nanos'} f t t' e =
-    let w = year_within secs epoch (fits secs t.secs_fit) (fits epoch f) in
-    let w' = year_within secs' epoch (fits secs' t'.secs_fit) (fits epoch f) in
-    let p = gives_one (sym (back (10 ^ 12) secs nanos epoch t (omega arith) (omega arith)) ∙ ap (read_text (10 ^ 12) epoch) e ∙ back (10 ^ 12) secs' nanos' epoch t' (omega arith) (omega arith)) in
-    (ap (λ z. z.0) p, ap (λ z. z.1) p)

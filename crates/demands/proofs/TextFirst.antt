@@ -20,14 +20,13 @@ use Rattle.decimals.specs.declared.Number.TheVariants.{Value, Bad}
 use Rattle.fields.specs.declared.Delimiter.{Delimiter}
 use Rattle.fields.specs.declared.Delimiter.TheVariants.{Hyphen, Point}
 use Rattle.fields.specs.declared.Field.{Field}
-use Rattle.fields.specs.declared.Field.TheVariants as Field
 use Rattle.fields.specs.declared.Seconds.{Seconds}
-use Rattle.fields.specs.declared.Seconds.TheVariants as Seconds
 use Rattle.stages.specs.declared.DateTime.{DateTime}
 use Rattle.stages.specs.declared.Parsed.{Parsed}
 use Rattle.stages.specs.declared.Parsed.TheVariants.{Fields, Refused}
 use Rattle.demands.specs.Refused.{OnlyRefuses, within_range_error}
-use Rattle.demands.proofs.RefusalsOf.{dates, from_date_only}
+use Rattle.demands.proofs.RefusalsOf.{dates}
+use Rattle.demands.proofs.EntriesRefuse.{from_date_only}
 
 -- 7, 8 or 9
 abbrev OwnError : ParseDateTimeError → Type 0

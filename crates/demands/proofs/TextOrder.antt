@@ -15,7 +15,6 @@ use Rattle.fields.specs.Fields.{width, before, delimited, behind, two_digits, na
 use Rattle.fields.specs.declared.Delimiter.{Delimiter}
 use Rattle.fields.specs.declared.Delimiter.TheVariants.{Hyphen, SpaceOrT, Colon, Point}
 use Rattle.fields.specs.declared.Field.{Field}
-use Rattle.fields.specs.declared.Field.TheVariants as Field
 use Rattle.fields.specs.declared.Seconds.TheVariants as Seconds
 use Rattle.stages.specs.Text.{on_field, field, from_month, with_sign, from_year, without_sign, parsed}
 use Rattle.stages.specs.declared.Parsed.{Parsed}

@@ -49,8 +49,8 @@ module _ (secs : ℤ) (nanos : ℕ) (epoch : ℤ) (precision : Precision) (line 
 
     -- into any line that has exactly n bytes from there, printing is accepted and writes them all, the text's n bytes;
     pub wanted_is_enough : (other : List ℕ) → length other ≡ at + n → (displayed secs nanos epoch precision other at ≡ (gives n, take at other ++ text)) × (length text ≡ n)
-    wanted_is_enough other e = (printed secs nanos epoch precision other at why.good (omega (arith, is_length, wanted_is_more)) ∙ rw (is_length, ← e, drop-length other, append-nil), is_length)
+    wanted_is_enough other e = (printed secs nanos epoch precision other at why.good (omega (arith, is_length, why.within, why.longer)) ∙ rw (is_length, ← e, drop-length other, append-nil), is_length)
 
     -- and into any line with one byte fewer it is refused with 13 and the same n, and leaves the line.
     pub one_fewer_is_refused : (other : List ℕ) → length other + 1 ≡ at + n → displayed secs nanos epoch precision other at ≡ (refuses (refusal 13 (pos n ∷ [])), other)
-    one_fewer_is_refused other e = no_room secs nanos epoch precision other at why.good (omega (arith, wanted_is_more)) (omega (arith, is_length, wanted_is_more)) ∙ rw is_length
+    one_fewer_is_refused other e = no_room secs nanos epoch precision other at why.good (omega (arith, is_length, why.within, why.longer)) (omega (arith, is_length, why.within, why.longer)) ∙ rw is_length

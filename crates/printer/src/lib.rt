@@ -1,4 +1,6 @@
 // Writing a stamp into a lent line.
+#![tactic(auto)]
+
 ghost use Rattle.std.specs.Prelude.{◌≡◌, ◌++◌, ◌+◌, ◌≤◌, length};
 ghost use Rattle.std.proofs.lemmas.List.Edits.{sets};
 ghost use Rattle.printed_parts.specs.Text.{dash, point};
@@ -14,7 +16,7 @@ pub use printed_parts::Precision;
 use printed_parts::{Part, fraction_part, part_length, put_part, year_part};
 
 // What is printed: a date, a time of day, and the nanoseconds since its second began.
-#[derive(Drop)]
+#[derive(Clone, Copy)]
 pub struct Instant {
     pub year: i64,
     pub month: u8,
@@ -26,7 +28,7 @@ pub struct Instant {
 }
 
 // How many bytes were written, or why none were.
-#[derive(Drop)]
+#[derive(Clone, Copy)]
 pub enum Printed {
     Length(usize),
     Refused(PrintError),
@@ -47,7 +49,7 @@ fn put_fields(s: &mut [u8], at: usize, t: Instant)
 // The year, the five fields and the fraction, from the front of s on.
 fn put_text(s: &mut [u8], year: Part, t: Instant, fraction: Part)
     requires bounded { Bounded year × Bounded fraction }
-    requires fraction_in_bounds { length (part_text dash year) + 15 + length (part_text point fraction) ≤ length s.old }
+    requires room { length (part_text dash year) + 15 + length (part_text point fraction) ≤ length s.old }
     ensures { s.new ≡ sets s.old 0 (part_text dash year ++ fields_text t ++ part_text point fraction) }
 {
     let at = put_part(s, 0, b'-', year);
@@ -58,8 +60,8 @@ fn put_text(s: &mut [u8], year: Part, t: Instant, fraction: Part)
 // The text of t in the line, from the place `at` on. Its length is known before a byte is written.
 fn print_at(t: Instant, precision: Precision, line: &mut [u8], at: usize) -> Printed
     requires { Ranged t }
-    ensures result_value { said result ≡ answer line.old at (text t precision) }
-    ensures line_after { line.new ≡ line_after line.old at (text t precision) }
+    ensures answered { said result ≡ answer line.old at (text t precision) }
+    ensures written { line.new ≡ line_after line.old at (text t precision) }
 {
     if line.len() < at {
         return Printed::Refused(PrintError::StartOutside);

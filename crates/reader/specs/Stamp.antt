@@ -4,7 +4,6 @@ use Rattle.errors.specs.Refusals.{Outcome, gives, refuses, refuses_in_range_erro
 use Rattle.counts.specs.Counts.{from_date_time}
 use Rattle.stages.specs.Text.{parsed}
 use Rattle.stages.specs.declared.Parsed.{Parsed}
-use Rattle.stages.specs.declared.Parsed.TheVariants as Parsed
 use Rattle.reader.specs.declared.stamp.ReadAnswer.{ReadAnswer}
 use Rattle.reader.specs.declared.stamp.ReadAnswer.TheVariants as Read
 

@@ -1,4 +1,6 @@
 // Reading a timestamp's text.
+#![tactic(auto)]
+
 mod date_time; // the whole text
 mod stamp; // the timestamp
 

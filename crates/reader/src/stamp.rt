@@ -10,7 +10,7 @@ use stages::Parsed;
 // The size of a year in a text is at most this.
 const YEAR_LIMIT: u64 = 2147483647;
 
-#[derive(Drop)]
+#[derive(Clone, Copy)]
 pub enum ReadAnswer {
     At(TaiTime),
     Refused(ParseDateTimeError),

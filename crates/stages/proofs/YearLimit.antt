@@ -15,9 +15,7 @@ use Rattle.decimals.specs.declared.Number.TheVariants.{Value, Bad}
 use Rattle.fields.specs.declared.Delimiter.{Delimiter}
 use Rattle.fields.specs.declared.Delimiter.TheVariants.{Hyphen}
 use Rattle.fields.specs.declared.Field.{Field}
-use Rattle.fields.specs.declared.Field.TheVariants as Field
 use Rattle.fields.specs.declared.Seconds.{Seconds}
-use Rattle.fields.specs.declared.Seconds.TheVariants as Seconds
 use Rattle.decimals.proofs.Values.{number_small}
 use Rattle.stages.specs.declared.DateTime.{DateTime}
 use Rattle.stages.specs.Text.{on_field, field, on_seconds, from_month, with_sign, from_year, without_sign, parsed}

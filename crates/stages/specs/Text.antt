@@ -6,9 +6,7 @@ use Rattle.fields.specs.Fields.{unless, width, before, delimited, behind, two_di
 use Rattle.fields.specs.declared.Delimiter.{Delimiter}
 use Rattle.fields.specs.declared.Delimiter.TheVariants.{Hyphen, SpaceOrT, Colon}
 use Rattle.fields.specs.declared.Field.{Field}
-use Rattle.fields.specs.declared.Field.TheVariants as Field
 use Rattle.fields.specs.declared.Seconds.{Seconds}
-use Rattle.fields.specs.declared.Seconds.TheVariants as Seconds
 use Rattle.stages.specs.declared.Parsed.{Parsed}
 use Rattle.stages.specs.declared.Parsed.TheVariants.{Fields, Refused}
 

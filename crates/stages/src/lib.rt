@@ -1,4 +1,6 @@
 // The stages of a text behind its year, and the year's sign.
+#![tactic(auto)]
+
 mod usual; // the short way of most texts
 
 ghost use Rattle.std.specs.Prelude.{◌≡◌, ◌^◌, ◌<◌};
@@ -10,7 +12,7 @@ use fields::{Delimiter, Field, Seconds};
 pub use usual::{is_usual, parse_usual};
 
 // What a text says: no rule on dates was asked yet.
-#[derive(Drop)]
+#[derive(Clone, Copy)]
 pub struct DateTime {
     pub year: i64,
     pub month: u8,
@@ -21,7 +23,7 @@ pub struct DateTime {
     pub nano: u32,
 }
 
-#[derive(Drop)]
+#[derive(Clone, Copy)]
 pub enum Parsed {
     Fields(DateTime),
     Refused(ParseDateTimeError),
