@@ -12,7 +12,7 @@ use Rattle.errors.specs.declared.ParseDateTimeError.TheVariants.{MissingField, I
 use Rattle.errors.specs.Refusals.{Refusal, refusal, of_parse}
 use Rattle.errors.specs.Told.{marked, told}
 use Rattle.errors.specs.declared.refusal.Refusal as Code
-use Rattle.bytes.specs.Bytes.{index_of, index_after}
+use Rattle.words.specs.Bytes.{index_of, index_after}
 use Rattle.words.specs.Words.{word_length, field_length, field_word, rest_at, word_at}
 use Rattle.words.proofs.Splits.{word_within}
 use Rattle.texts.specs.Texts.{natural}

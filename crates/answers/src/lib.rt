@@ -1,4 +1,6 @@
 // What an entry answered, in one form for all, and the line that says it.
+#![tactic(auto)]
+
 ghost use Rattle.std.specs.Prelude.{◌++◌, ◌+◌, ◌≤◌, length};
 ghost use Rattle.errors.specs.Refusals.{gives};
 ghost use Rattle.errors.specs.Told.{told};
@@ -11,7 +13,7 @@ use errors::Refusal;
 use texts::{put, put_behind_blank, put_integer, put_natural};
 use words::words::word_at;
 
-#[derive(Drop)]
+#[derive(Clone, Copy)]
 pub enum Said {
     Time(i64, u32), // seconds and nanoseconds
     Unix(i64), // seconds
@@ -24,8 +26,8 @@ pub enum Said {
 
 fn put_mark(out: &mut [u8], at: usize, in_range_error: bool) -> usize
     requires { at + 11 ≤ length out.old }
-    ensures put { Put out.old at (mark in_range_error) out.new result }
-    ensures upper_bound { result ≤ at + 11 }
+    ensures written { Put out.old at (mark in_range_error) out.new result }
+    ensures within { result ≤ at + 11 }
 {
     if in_range_error {
         return put(out, at, b"RangeError ");
@@ -35,8 +37,8 @@ fn put_mark(out: &mut [u8], at: usize, in_range_error: bool) -> usize
 
 fn put_name(out: &mut [u8], at: usize, number: u8) -> usize
     requires { at + 17 ≤ length out.old }
-    ensures put { Put out.old at (word_at number names) out.new result }
-    ensures upper_bound { result ≤ at + 17 }
+    ensures written { Put out.old at (word_at number names) out.new result }
+    ensures within { result ≤ at + 17 }
 {
     let names =
         b" InvalidMonth InvalidDayOfMonth InvalidHour InvalidMinute InvalidSecond InvalidNanosecond OutOfRange MissingField InvalidFieldWidth InvalidFieldValue NotRepresentable BadNanos StartOutside NoRoom";
@@ -45,8 +47,8 @@ fn put_name(out: &mut [u8], at: usize, number: u8) -> usize
 
 pub fn put_refusal(out: &mut [u8], refusal: Refusal) -> usize
     requires { 128 ≤ length out.old }
-    ensures put { Put out.old 0 (line natural (told refusal)) out.new result }
-    ensures upper_bound { result ≤ 80 }
+    ensures written { Put out.old 0 (line natural (told refusal)) out.new result }
+    ensures within { result ≤ 80 }
 {
     let at = put(out, 0, b"refused ");
     let at = put_natural(out, at, refusal.number as u64);
@@ -61,8 +63,8 @@ pub fn put_refusal(out: &mut [u8], refusal: Refusal) -> usize
 
 fn put_ok_integer(out: &mut [u8], n: i64) -> usize
     requires { 128 ≤ length out.old }
-    ensures put { Put out.old 0 (line integer (gives n)) out.new result }
-    ensures upper_bound { result ≤ 24 }
+    ensures written { Put out.old 0 (line integer (gives n)) out.new result }
+    ensures within { result ≤ 24 }
 {
     let at = put(out, 0, b"ok ");
     put_integer(out, at, n)
@@ -70,8 +72,8 @@ fn put_ok_integer(out: &mut [u8], n: i64) -> usize
 
 fn put_ok_natural(out: &mut [u8], n: u64) -> usize
     requires { 128 ≤ length out.old }
-    ensures put { Put out.old 0 (line natural (gives n)) out.new result }
-    ensures upper_bound { result ≤ 23 }
+    ensures written { Put out.old 0 (line natural (gives n)) out.new result }
+    ensures within { result ≤ 23 }
 {
     let at = put(out, 0, b"ok ");
     put_natural(out, at, n)
@@ -79,8 +81,8 @@ fn put_ok_natural(out: &mut [u8], n: u64) -> usize
 
 fn put_ok_word(out: &mut [u8], i: usize) -> usize
     requires { 128 ≤ length out.old }
-    ensures put { Put out.old 0 (bytes "ok " ++ word_at i (bytes " earlier same later")) out.new result }
-    ensures upper_bound { result ≤ 23 }
+    ensures written { Put out.old 0 (bytes "ok " ++ word_at i (bytes " earlier same later")) out.new result }
+    ensures within { result ≤ 23 }
 {
     let at = put(out, 0, b"ok ");
     put(out, at, word_at(b" earlier same later", i))
@@ -88,8 +90,8 @@ fn put_ok_word(out: &mut [u8], i: usize) -> usize
 
 pub fn put_said(out: &mut [u8], said: Said) -> usize
     requires { 128 ≤ length out.old }
-    ensures put { Put out.old 0 (said_text said) out.new result }
-    ensures upper_bound { result ≤ 80 }
+    ensures written { Put out.old 0 (said_text said) out.new result }
+    ensures within { result ≤ 80 }
 {
     match said {
         Said::Time(secs, nanos) => {

@@ -6,7 +6,7 @@ use Prim.Native.Nat.{ℕ, ◌≤◌}
 use lib.ListN.{length, take, drop, get_or-eq_default}
 use borrow.Author.Tests.{le-ltb}
 use Rattle.texts.specs.Texts.{bytes, alike}
-use Rattle.bytes.specs.Bytes.{index_of, index_after}
+use Rattle.words.specs.Bytes.{index_of, index_after}
 use Rattle.words.specs.Words.{word_length, field_length, field_word, rest_at, word_at}
 use Rattle.words.specs.Tables.{row_from}
 use Rattle.words.specs.Places.{letters, fits, given}
@@ -15,18 +15,12 @@ use Rattle.words.proofs.Places.{by_place}
 use Rattle.answers.specs.Answers.{malformed}
 use Rattle.desk.specs.Verbs.{Row, row, rows, answer_of, by_verb}
 use Rattle.desk.specs.Answers.{answer_text}
+use Rattle.desk.proofs.Coded.{verbs, kinds}
 
 -- no verb has a number from there on
 pub past : (k : ℕ) (s : List ℕ) → 13 ≤ k → malformed ≡ answer_of k s
 unfolding answer_of
 past k s h = rw (get_or-eq_default rows _ h)
-
--- the table as the code has it: the verbs, and the kinds of the words behind each
-abbrev pub verbs : List ℕ
-verbs = bytes " print line new date unix to-unix epoch add sub since compare read read-hex"
-
-abbrev pub kinds : List ℕ
-kinds = bytes " eiup. eiupUx. iu. eybbbbbu. eiui. eiui. eeiu. iuUu. iuUu. iuiu. iuiu. et ex."
 
 -- what is answered by the number of a verb
 abbrev pub numbered : List ℕ → ℕ → List ℕ

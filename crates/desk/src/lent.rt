@@ -19,8 +19,8 @@ use words::words::word_at;
 // The text is printed into the answer itself, behind the three bytes that say so.
 pub(crate) fn print(s: &[u8], out: &mut [u8]) -> usize
     requires { 128 ≤ length out.old }
-    ensures put { Put out.old 0 (answer_of 0 s.now) out.new result }
-    ensures upper_bound { result < 128 }
+    ensures written { Put out.old 0 (answer_of 0 s.now) out.new result }
+    ensures within { result < 128 }
 {
     match display(time_at(s, 1), epoch_word(s, 0), precision_at(s, 3), out, 3) {
         Printed::Length(n) => put(out, 0, b"ok ") + n,
@@ -47,8 +47,8 @@ fn print_in(
     out: &mut [u8],
 ) -> usize
     requires { 2 * length lent.old + 128 ≤ length out.old }
-    ensures put { Put out.old 0 (lent_line (displayed t.secs t.nanos epoch.0 precision lent.old at)) out.new result }
-    ensures upper_bound { result < 2 * length lent.old + 128 }
+    ensures written { Put out.old 0 (lent_line (displayed t.secs t.nanos epoch.0 precision lent.old at)) out.new result }
+    ensures within { result < 2 * length lent.old + 128 }
 {
     let printed = display(t, epoch, precision, lent, at);
     let end = put_said(out, said_printed(printed));
@@ -58,8 +58,8 @@ fn print_in(
 
 pub(crate) fn line(s: &[u8], out: &mut [u8]) -> usize
     requires { (length s.now ≤ 65535) × (length s.now + 128 ≤ length out.old) }
-    ensures put { Put out.old 0 (answer_of 1 s.now) out.new result }
-    ensures upper_bound { result < length s.now + 128 }
+    ensures written { Put out.old 0 (answer_of 1 s.now) out.new result }
+    ensures within { result < length s.now + 128 }
 {
     let mut bytes = [0u8; 32768];
     let n = unhex(word_at(s, 5), &mut bytes);

@@ -1,4 +1,6 @@
 // The desk program's requests: one line, one answer line.
+#![tactic(auto)]
+
 mod lent; // the verbs that print, and that write into lent bytes
 mod request; // a request to its answer
 mod verbs; // the verbs whose answer is said in one form

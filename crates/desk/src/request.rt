@@ -14,8 +14,8 @@ use words::words::{word_at, word_length};
 
 fn put_answer(request: &[u8], out: &mut [u8]) -> usize
     requires { length request.now + 128 ≤ length out.old }
-    ensures put { Put out.old 0 (answer_text request.now) out.new result }
-    ensures upper_bound { result < length request.now + 128 }
+    ensures written { Put out.old 0 (answer_text request.now) out.new result }
+    ensures within { result < length request.now + 128 }
 {
     if 65535 < request.len() {
         return put(out, 0, b"malformed");

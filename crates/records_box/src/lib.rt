@@ -1,11 +1,13 @@
 // The entries for C and Rust: numbers and lent bytes in, one struct out. No rule stands here.
+#![tactic(auto)]
+
 mod results;
 pub mod texts;
 pub mod times;
 
 // refusal: -1, or the number in the table of refusals; value: the refusal's; in_range_error: 1 if a text's date was refused.
 #[repr(C)]
-#[derive(Drop)]
+#[derive(Clone, Copy)]
 pub struct TimeResult {
     pub refusal: i32,
     pub in_range_error: i32,
@@ -15,14 +17,14 @@ pub struct TimeResult {
 }
 
 #[repr(C)]
-#[derive(Drop)]
+#[derive(Clone, Copy)]
 pub struct UnixResult {
     pub refusal: i32,
     pub secs: i64,
 }
 
 #[repr(C)]
-#[derive(Drop)]
+#[derive(Clone, Copy)]
 pub struct DurationResult {
     pub refusal: i32,
     pub nanos: u32,
@@ -30,7 +32,7 @@ pub struct DurationResult {
 }
 
 #[repr(C)]
-#[derive(Drop)]
+#[derive(Clone, Copy)]
 pub struct OrderingResult {
     pub refusal: i32,
     pub ordering: i32,
@@ -38,7 +40,7 @@ pub struct OrderingResult {
 
 // wanted: the length of a text that had no room, else 0.
 #[repr(C)]
-#[derive(Drop)]
+#[derive(Clone, Copy)]
 pub struct LengthResult {
     pub refusal: i32,
     pub wanted: u32,
@@ -46,7 +48,7 @@ pub struct LengthResult {
 }
 
 #[repr(C)]
-#[derive(Drop)]
+#[derive(Clone, Copy)]
 pub struct MomentResult {
     pub year: i64,
     pub month: u8,

@@ -3,11 +3,12 @@ ghost use Rattle.std.specs.Prelude.{◌≤◌, length};
 
 use crate::turns::answer_lines;
 use lines::move_to_front;
+use std::io::Input;
 use streams::{read_behind, write};
 
 // The first `end` bytes of the input are there and not answered yet, and stay so where a read fails. A proved loop has to
 // end, and nothing says that the input does: no run uses up the count of turns.
-pub(crate) fn answer_input(input: &mut [u8], out: &mut [u8])
+pub(crate) fn answer_input(rt: &(impl Input + Print + Eprint), input: &mut [u8], out: &mut [u8])
     requires { (65536 ≤ length input.old) × (65664 ≤ length out.old) }
 {
     let mut end = 0;
@@ -16,7 +17,7 @@ pub(crate) fn answer_input(input: &mut [u8], out: &mut [u8])
     let mut turns = u64::MAX;
     while 0 < turns {
         let done = answer_lines(&input[..end], within, ended, out);
-        if !write(out, done.written) {
+        if !write(rt, out, done.written) {
             return;
         }
         within = done.within;
@@ -25,7 +26,7 @@ pub(crate) fn answer_input(input: &mut [u8], out: &mut [u8])
             if ended {
                 return;
             }
-            let came = read_behind(input, end);
+            let came = read_behind(rt, input, end);
             if came.failed {
                 return;
             }
