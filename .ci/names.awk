@@ -2,7 +2,7 @@
 
 function finding(word, why) { print FILENAME ":" FNR ": " word ": " why; findings++ }
 
-function is_document() { return FILENAME ~ /\.md$/ && FILENAME !~ /^docs\/landings\// }
+function is_document() { return FILENAME ~ /\.md$/ && FILENAME !~ /^docs\/(landings\/|PORT\.md$)/ }
 
 function folder(path) { return sub(/\/[^\/]*$/, "", path) ? path : "" }
 
@@ -57,7 +57,7 @@ function read_code(line,  k, n, part) {
     has_words(line, "[^A-Za-z0-9_]+")
     has_words(line, "[^A-Za-z0-9_-]+")
     if (FILENAME !~ /\.(rt|rs|h|py)$/) return
-    declare_all(line, "(fn|const|struct|enum|mod|type|static|trait|def|class) +[A-Za-z_][A-Za-z0-9_]*")
+    declare_all(line, "(fn|const|struct|enum|mod|type|static|trait|def|class|requires|ensures) +[A-Za-z_][A-Za-z0-9_]*")
     declare_all(line, "[A-Za-z_][A-Za-z0-9_]* *:")
     declare_all(line, FILENAME ~ /\.h$/ ? "[A-Za-z_][A-Za-z0-9_]*" : "^ +[A-Z][A-Za-z0-9]*( *[({,=]|$)")
 }
@@ -106,7 +106,7 @@ function paths_in(span,  k, n, word, path) {
     n = split(span, word, " ")
     for (k = 1; k <= n; k++) {
         gsub(/^[^A-Za-z0-9_.*\/]+|[^A-Za-z0-9_*\/]+$/, "", word[k])
-        if (!is_path(word[k]) || word[k] ~ /(^|\/)target(\/|$)|^\/dev\//) continue
+        if (!is_path(word[k]) || word[k] ~ /(^|\/)(target|out)(\/|$)|^\/dev\//) continue
         citations++
         path = resolved(word[k])
         if (path == "") { finding(word[k], "no such path"); continue }

@@ -1,5 +1,5 @@
-/* Admezgast for C (C99 and later) and C++ (C++11 and later), x86-64 Linux. Link target/staticlib/librecords_box.a, which
- * `rt staticlib records_box` writes; nothing else is needed beside it.
+/* Admezgast for C (C99 and later) and C++ (C++11 and later), x86-64 Linux. Link crates/records_box/out/librecords_box.a,
+ * which `rt lib` in crates/records_box writes; nothing else is needed beside it.
  *
  * A timestamp is a count: secs from an epoch, and nanos below 10^9 that count forward from there. A count does not tell
  * its epoch: compare and subtract only counts over one epoch.

@@ -50,10 +50,10 @@ fn own_archive() -> Result<PathBuf, String> {
     let package = PathBuf::from(env::var_os("CARGO_MANIFEST_DIR").expect("cargo sets it"));
     let root = package.join("../..");
     let root = root.canonicalize().unwrap_or(root);
-    let archive = root.join("target/staticlib/librecords_box.a");
+    let archive = root.join("crates/records_box/out/librecords_box.a");
     let Some(made) = changed(&archive) else {
         return Err(format!(
-            "{} is not there: run `rt staticlib records_box` at the repository's root, or name the archive in {VARIABLE}",
+            "{} is not there: run `rt lib` in the repository's crates/records_box, or name the archive in {VARIABLE}",
             archive.display()
         ));
     };
@@ -67,7 +67,7 @@ fn own_archive() -> Result<PathBuf, String> {
         println!("cargo::rerun-if-changed={}", source.display());
         if time > made {
             return Err(format!(
-                "{} is older than {}: run `rt staticlib records_box` at the repository's root",
+                "{} is older than {}: run `rt lib` in the repository's crates/records_box",
                 archive.display(),
                 source.display()
             ));
@@ -85,14 +85,17 @@ fn mark(root: &Path, archive: &Path, time: SystemTime) {
     let marked =
         File::create(archive.with_file_name(&name)).and_then(|file| file.set_modified(time));
     if marked.is_ok() {
-        println!("cargo::rerun-if-changed=../../target/staticlib/{name}");
+        println!("cargo::rerun-if-changed=../../crates/records_box/out/{name}");
     }
 }
 
-/// Every `.rt` file below the folder, if there is one.
+/// Every `.rt` file below the folder, if there is one, but what Rattle made of them.
 fn add_sources(folder: &Path, sources: &mut Vec<PathBuf>) {
     for entry in fs::read_dir(folder).into_iter().flatten().flatten() {
         let path = entry.path();
+        if path.ends_with("out") {
+            continue;
+        }
         if path.is_dir() {
             add_sources(&path, sources);
         } else if path.extension().is_some_and(|extension| extension == "rt") {

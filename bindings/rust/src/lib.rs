@@ -72,8 +72,8 @@
 //!
 //! # The archive
 //!
-//! It is the repository's `target/staticlib/librecords_box.a`, or the file that the variable `ADMEZGAST_ARCHIVE` names,
-//! and is for x86-64 Linux.
+//! It is the repository's `crates/records_box/out/librecords_box.a`, or the file that the variable `ADMEZGAST_ARCHIVE`
+//! names, and is for x86-64 Linux.
 #![no_std]
 #![deny(missing_docs)]
 
