@@ -12,7 +12,7 @@ use Rattle.errors.specs.declared.ParseDateTimeError.TheVariants.{MissingField, I
 use Rattle.errors.specs.Refusals.{Refusal, refusal, of_parse}
 use Rattle.errors.specs.Told.{marked, told}
 use Rattle.errors.specs.declared.refusal.Refusal as Code
-use Rattle.words.specs.Bytes.{index_of, index_after}
+use Rattle.words.specs.Bytes.{index_of}
 use Rattle.words.specs.Words.{word_length, field_length, field_word, rest_at, word_at}
 use Rattle.words.proofs.Splits.{word_within}
 use Rattle.texts.specs.Texts.{natural}
@@ -32,7 +32,7 @@ no_longer (suc left) (suc n) s =
     omega (arith, no_longer left n rest, le-max_right (length (field_word s)) (longest left rest))
 
 pub name_short : (n : ℕ) → length (word_at n names) ≤ 17
-unfolding longest field_word field_length word_length index_of index_after
+unfolding longest field_word field_length word_length index_of
 name_short n = no_longer 14 n names
 
 pub told_text : (r : Code.Refusal) → line natural (told r) ≡ refusal_text r.in_range_error (refusal r.number (cond r.valued (pos r.value ∷ []) []))

@@ -6,7 +6,7 @@ use Prim.Native.Nat.{ℕ, ◌≤◌}
 use lib.ListN.{length, take, drop, get_or-eq_default}
 use borrow.Author.Tests.{le-ltb}
 use Rattle.texts.specs.Texts.{bytes, alike}
-use Rattle.words.specs.Bytes.{index_of, index_after}
+use Rattle.words.specs.Bytes.{index_of}
 use Rattle.words.specs.Words.{word_length, field_length, field_word, rest_at, word_at}
 use Rattle.words.specs.Tables.{row_from}
 use Rattle.words.specs.Places.{letters, fits, given}
@@ -37,7 +37,7 @@ by_verb_lem word s [] = refl
 by_verb_lem word s (row verb asks answer ∷ more) = rw (by_place asks answer malformed 0 s, by_verb_lem word s more)
 
 computed : (word s : List ℕ) → by_row (numbered s) 1 13 0 word verbs ≡ placed word s rows
-unfolding by_row word_at rest_at field_length field_word word_length index_of index_after fits answer_of
+unfolding by_row word_at rest_at field_length field_word word_length index_of fits answer_of
 computed word s = refl
 
 pub answer_by_lem : (s : List ℕ) (k : ℕ) → length s ≤ 65535 → k ≡ row_from 1 13 0 (take (word_length s) s) verbs → answer_text s ≡ numbered (drop (word_length s) s) k

@@ -10,7 +10,7 @@ use lib.Dec.{eqb}
 use lib.ListN.{length, take, drop}
 use borrow.Author.Tests.{eqb-true, eqb-false}
 use mir.Val.{bool_byte}
-use Rattle.words.specs.Bytes.{index_of, index_after}
+use Rattle.words.specs.Bytes.{index_of}
 use Rattle.lines.specs.Lines.{lines, in_first, others, ready, answers_to, answers}
 use Rattle.lines.specs.FirstLine.{continues, first_of}
 
@@ -34,13 +34,13 @@ module _ (x : ℕ) (s : List ℕ) (e : eqb x 10 ≡ false) where
   lines_more = rw (e, in_first_lem)
 
   pub index_more : index_of 10 (x ∷ s) ≡ suc (index_of 10 s)
-  unfolding index_of index_after
-  index_more = rw e
+  unfolding index_of
+  index_more = rw e (omega arith)
 
 module _ (t : List ℕ) where
   -- the first line, where an LF ends it or nothing follows
   pub first_line : (s : List ℕ) → (continues s ≡ false) ⊎ (t ≡ []) → first (lines (s ++ t)) ≡ take (index_of 10 s) s
-  unfolding lines index_of index_after
+  unfolding lines index_of
   first_line [] (inl h) = let z : ◌≡◌ {A = ℕ} 0 1 = cc in absurd (omega arith)
   first_line [] (inr h) = rw h
   first_line (x ∷ s) h = at (eqb x 10) refl h (first_line s)
@@ -54,7 +54,7 @@ module _ (t : List ℕ) where
 
   -- it has all bytes before the first LF
   pub first_long : (s : List ℕ) → index_of 10 s ≤ length (first (lines (s ++ t)))
-  unfolding lines index_of index_after
+  unfolding lines index_of
   first_long [] = omega arith
   first_long (x ∷ s) = at (eqb x 10) refl (first_long s)
     where
@@ -71,13 +71,13 @@ ready_some false [] e = let z : ◌≡◌ {A = ℕ} 0 1 = cc in omega arith
 ready_some ended (x ∷ s) e = omega arith
 
 pub index_le : (s : List ℕ) → index_of 10 s ≤ length s
-unfolding index_of index_after
+unfolding index_of
 index_le [] = omega arith
-index_le (x ∷ s) = at (eqb x 10) (index_le s)
+index_le (x ∷ s) = at (eqb x 10) refl (index_le s)
   where
-    at : (b : Bool) → index_of 10 s ≤ length s → index_after b (index_of 10 s) ≤ suc (length s)
-    at true h = omega arith
-    at false h = omega arith
+    at : (b : Bool) → eqb x 10 ≡ b → index_of 10 s ≤ length s → index_of 10 (x ∷ s) ≤ suc (length s)
+    at true e h = rw e (omega arith)
+    at false e h = rw (index_more x s e) (omega arith)
 
 -- of bytes that are there, some are used, and no more
 pub used_some : (s : List ℕ) → (used s ≤ length s) × (0 < length s → 0 < used s)
@@ -95,7 +95,7 @@ used_is s = at (continues s) refl (index_le s)
 module _ (answer : List ℕ → List ℕ) where
   -- passing over the first line
   pub pass : (t s : List ℕ) → answers answer true (s ++ t) ≡ answers answer (continues s) (drop (used s) s ++ t)
-  unfolding lines index_of index_after answers
+  unfolding lines index_of answers
   pass t [] = refl
   pass t (x ∷ s) = at (eqb x 10) refl (pass t s)
     where

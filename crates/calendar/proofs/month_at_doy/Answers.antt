@@ -4,7 +4,7 @@ use mir.Val.{bool_byte}
 use Rattle.calendar.proofs.Years.{some_length}
 use Rattle.calendar.proofs.Months.{month_rule}
 use Rattle.calendar.proofs.month_at_doy.Goals as goal
-use Rattle.calendar.proofs.month_at_doy.Goals.{then-doy-lacking-lt61, else-doy-lacking-lt61}
+use Rattle.calendar.proofs.month_at_doy.Goals.{Joined-doy-lacking-lt61, then-doy-lacking-lt61, else-doy-lacking-lt61}
 
 pub overflow_add-doy : goal.overflow_add-doy
 overflow_add-doy c = omega (arith, some_length c.args.leap)
@@ -12,17 +12,17 @@ overflow_add-doy c = omega (arith, some_length c.args.leap)
 pub overflow_add-even : goal.overflow_add-even
 overflow_add-even c = omega (arith, some_length c.args.leap)
 
-pub overflow_mul-result : goal.overflow_mul-result
-overflow_mul-result c =
+-- an evened day is below 369
+even_top : (c : Joined-doy-lacking-lt61) → c.if-doy-lacking-lt61.even ≤ 368
+even_top c =
     let l = some_length c.args.leap in
-    let top : c.if-doy-lacking-lt61.even ≤ 368 = elim c.if-doy-lacking-lt61.branch [ then-doy-lacking-lt61 w ↦ omega arith | else-doy-lacking-lt61 w ↦ omega arith ] in
-    omega arith
+    elim c.if-doy-lacking-lt61.branch [ then-doy-lacking-lt61 w ↦ omega arith | else-doy-lacking-lt61 w ↦ omega arith ]
+
+pub overflow_mul-result : goal.overflow_mul-result
+overflow_mul-result c = omega (arith, even_top (search))
 
 pub overflow_add-result : goal.overflow_add-result
-overflow_add-result c =
-    let l = some_length c.args.leap in
-    let top : c.if-doy-lacking-lt61.even ≤ 368 = elim c.if-doy-lacking-lt61.branch [ then-doy-lacking-lt61 w ↦ omega arith | else-doy-lacking-lt61 w ↦ omega arith ] in
-    omega arith
+overflow_add-result c = omega (arith, even_top (search))
 
 pub returns : goal.returns
 returns c =
