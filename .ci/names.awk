@@ -2,7 +2,7 @@
 
 function finding(word, why) { print FILENAME ":" FNR ": " word ": " why; findings++ }
 
-function is_document() { return FILENAME ~ /\.md$/ && FILENAME !~ /^docs\/(landings\/|PORT\.md$)/ }
+function is_document() { return FILENAME ~ /\.md$/ && FILENAME !~ /^docs\/(landings\/|(PORT|DESIGN-PASS)\.md$)/ }
 
 function folder(path) { return sub(/\/[^\/]*$/, "", path) ? path : "" }
 

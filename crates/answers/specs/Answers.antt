@@ -1,15 +1,32 @@
 -- The answer line of an entry's outcome.
-use Rattle.std.specs.Prelude.{Bool, true, false, List, [], ◌∷◌, ◌++◌, ℕ, ℤ}
+use Rattle.std.specs.Prelude.{Bool, true, false, List, [], ◌∷◌, ◌++◌, ℕ, ℤ, get_or}
 use Rattle.errors.specs.Refusals.{Refusal, Outcome, gives, refuses, refuses_in_range_error}
-use Rattle.durations.specs.declared.Ordering.{Ordering}
-use Rattle.durations.specs.declared.Ordering.TheVariants.{Less, Equal, Greater}
+use Rattle.std.specs.declared.cmp.Ordering.{Ordering}
+use Rattle.std.specs.declared.cmp.Ordering.TheVariants.{Less, Equal, Greater}
 use Rattle.texts.specs.Texts.{bytes, natural, integer}
-use Rattle.words.specs.Words.{word_at}
 
 -- the names in document 01's table, from number 0 on
-abbrev pub names : List ℕ
+abbrev pub names : List (List ℕ)
 names =
-    bytes " InvalidMonth InvalidDayOfMonth InvalidHour InvalidMinute InvalidSecond InvalidNanosecond OutOfRange MissingField InvalidFieldWidth InvalidFieldValue NotRepresentable BadNanos StartOutside NoRoom"
+    bytes "InvalidMonth"
+    ∷ bytes "InvalidDayOfMonth"
+    ∷ bytes "InvalidHour"
+    ∷ bytes "InvalidMinute"
+    ∷ bytes "InvalidSecond"
+    ∷ bytes "InvalidNanosecond"
+    ∷ bytes "OutOfRange"
+    ∷ bytes "MissingField"
+    ∷ bytes "InvalidFieldWidth"
+    ∷ bytes "InvalidFieldValue"
+    ∷ bytes "NotRepresentable"
+    ∷ bytes "BadNanos"
+    ∷ bytes "StartOutside"
+    ∷ bytes "NoRoom"
+    ∷ []
+
+-- the name of a number, none of one that no refusal has
+abbrev pub name_of : ℕ → List ℕ
+name_of number = get_or names number []
 
 -- a refusal's values, each behind a blank
 abbrev pub values_text : List ℤ → List ℕ
@@ -24,7 +41,7 @@ mark false = []
 -- `refused NUMBER NAME` and the values
 unfoldable pub refusal_text : Bool → Refusal → List ℕ
 refusal_text inside r =
-    bytes "refused " ++ natural r.number ++ bytes " " ++ mark inside ++ word_at r.number names ++ values_text r.values
+    bytes "refused " ++ natural r.number ++ bytes " " ++ mark inside ++ name_of r.number ++ values_text r.values
 
 -- the line of an outcome whose value is written so
 abbrev pub line : {A : Type 0} → (A → List ℕ) → Outcome A → List ℕ

@@ -18,14 +18,18 @@ const DAYS_IN_MONTH: [[u8; 12]; 2] = [
     [31, 29, 31, 30, 31, 30, 31, 31, 30, 31, 30, 31],
 ];
 
+// The days of 400 years.
+const CYCLE_DAYS: u32 = 146_097;
+
 // Of a century year, 400 divides it exactly where 16 does.
 pub fn is_leap(year: i64) -> bool
     ensures { result ≡ is_leap year }
 {
     if year % 100 == 0 {
-        return year % 16 == 0;
+        year % 16 == 0
+    } else {
+        year % 4 == 0
     }
-    year % 4 == 0
 }
 
 pub fn days_in_month(year: i64, month: u8) -> u8
@@ -42,10 +46,7 @@ pub fn is_day_of_month(year: i64, month: u8, day: u8) -> bool
     requires { (1 ≤ month) × (month ≤ 12) }
     ensures { result ≡ leb day (month_length year month) }
 {
-    if day <= 28 {
-        return true;
-    }
-    day <= days_in_month(year, month)
+    day <= 28 || day <= days_in_month(year, month)
 }
 
 // The days of a year before a month that is counted from 0: months of 489/16 days, less what February lacks of 30.
@@ -55,9 +56,10 @@ fn doy_at_month(leap: bool, index: usize) -> u32
 {
     let even = (index as u32 * 489 + 8) / 16;
     if index < 2 {
-        return even;
+        even
+    } else {
+        even - 2 + leap as u32
     }
-    even - 2 + leap as u32
 }
 
 // The day of the year, from 0.
@@ -115,8 +117,8 @@ pub fn days_from_year_0(year: i64) -> i64
     requires { nat_abs year ≤ 1_000_000_000_001 }
     ensures { result ≡ year_start year }
 {
-    let years = (year + 1000000000400) as u64;
-    year * 365 + leap_years(years) as i64 - 242500000097
+    let years = (year + 1_000_000_000_400) as u64;
+    year * 365 + leap_years(years) as i64 - 242_500_000_097
 }
 
 // A year of the 400-year cycle, and the day of that year, from 0.
@@ -128,38 +130,35 @@ pub struct YearDay {
 
 // A century has a quarter of the cycle's days, and its year a quarter of 1461, but where it starts with a common year.
 fn year_in_cycle(day: u32) -> YearDay
-    requires { day < 146097 }
+    requires { day < 146_097 }
     ensures { InCycle day result.year result.day }
 {
-    let n100 = day * 4 / 146097;
-    let day = day - n100 * 146097 / 4;
+    let n100 = day * 4 / CYCLE_DAYS;
+    let day = day - n100 * CYCLE_DAYS / 4;
     let n1 = day * 4 / 1461;
     // Every century but the cycle's first starts with a common year.
     if n1 == 0 && 0 < n100 {
-        return YearDay {
+        YearDay {
             year: n100 * 100,
             day: day - 1,
-        };
-    }
-    YearDay {
-        year: n100 * 100 + n1,
-        day: day - (n1 * 1461 + 3) / 4,
+        }
+    } else {
+        YearDay {
+            year: n100 * 100 + n1,
+            day: day - (n1 * 1461 + 3) / 4,
+        }
     }
 }
 
 // The date of a day of a cycle; cycle 0 starts with year 0.
 pub fn date_in_cycle(cycle: i64, day: u32) -> Date
-    requires { (nat_abs cycle ≤ 10_000_000_000) × (day < 146097) }
-    ensures { result ≡ walk (cycle *ℤ pos 146097 +ℤ pos day -ℤ pos 719528) }
+    requires { (nat_abs cycle ≤ 10_000_000_000) × (day < 146_097) }
+    ensures { result ≡ walk (cycle *ℤ pos 146_097 +ℤ pos day -ℤ pos 719_528) }
 {
     let found = year_in_cycle(day);
     let year = cycle * 400 + found.year as i64;
-    let within = month_and_day_of_month(year, found.day);
-    Date {
-        year,
-        month: within.month,
-        day: within.day,
-    }
+    let MonthDay { month, day } = month_and_day_of_month(year, found.day);
+    Date { year, month, day }
 }
 
 // The day on which the walk reaches the date.
@@ -168,12 +167,10 @@ pub fn day_of_date(d: Date) -> i64
     ensures { result ≡ day_number d }
 {
     // Years that start with March end with February, so that no day of theirs asks for leapness: months of 979/32 days, 306 days before January, and days from 1.
-    let early = d.month < 3;
-    let month = if early {
-        d.month as u32 + 12
+    let (year, month) = if d.month < 3 {
+        (d.year, d.month as u32 + 12)
     } else {
-        d.month as u32
+        (d.year + 1, d.month as u32)
     };
-    let year = if early { d.year } else { d.year + 1 };
-    days_from_year_0(year) + ((month * 979 - 2919) / 32 + d.day as u32) as i64 - 719835
+    days_from_year_0(year) + ((month * 979 - 2919) / 32 + d.day as u32) as i64 - 719_835
 }

@@ -2,82 +2,45 @@
 #![tactic(auto)]
 
 ghost use Rattle.std.specs.Prelude.{◌≡◌, ℤ};
-ghost use Rattle.errors.specs.Refusals.{Outcome, refuses, of_date_time};
-ghost use Rattle.errors.specs.declared.DateTimeError.TheVariants.{OutOfRange};
-ghost use Rattle.dates.specs.Said.{said_field};
+ghost use Rattle.errors.specs.Refusals.{Outcome};
+ghost use Rattle.dates.specs.Said.{said_checked};
 ghost use Rattle.dates.specs.Dates.{fields_checked};
 
 use errors::DateTimeError;
 
-// The calendar field that is refused first, in 01's order.
+// What calendar fields say: no rule was asked yet. The year stands last, since a Result's error lies over the first bytes: reading is quicker so.
 #[derive(Clone, Copy)]
-pub enum BadField {
-    None,
-    Month,
-    Day,
-    Hour,
-    Minute,
-    Second,
-    Nanosecond,
+pub struct DateTime {
+    pub month: u8,
+    pub day: u8,
+    pub hour: u8,
+    pub min: u8,
+    pub sec: u8,
+    pub nano: u32,
+    pub year: i64,
 }
 
-pub fn first_bad_field(
-    year: i64,
-    month: u8,
-    day: u8,
-    hour: u8,
-    min: u8,
-    sec: u8,
-    nano: u32,
-) -> BadField
-    ensures { (rest : Outcome ℤ) → said_field result month day hour min sec nano rest ≡ fields_checked year month day hour min sec nano rest }
+// Refusals 0 to 5: of several bad fields the first is refused, in 01's order.
+pub fn check_fields(d: DateTime) -> Result<(), DateTimeError>
+    ensures { (rest : Outcome ℤ) → said_checked result rest ≡ fields_checked d.year d.month d.day d.hour d.min d.sec d.nano rest }
 {
-    if month < 1 {
-        return BadField::Month;
+    if d.month < 1 || 12 < d.month {
+        return Err(DateTimeError::InvalidMonth(d.month));
     }
-    if 12 < month {
-        return BadField::Month;
+    if d.day < 1 || !calendar::is_day_of_month(d.year, d.month, d.day) {
+        return Err(DateTimeError::InvalidDayOfMonth(d.day));
     }
-    if day < 1 {
-        return BadField::Day;
+    if 23 < d.hour {
+        return Err(DateTimeError::InvalidHour(d.hour));
     }
-    if !calendar::is_day_of_month(year, month, day) {
-        return BadField::Day;
+    if 59 < d.min {
+        return Err(DateTimeError::InvalidMinute(d.min));
     }
-    if 23 < hour {
-        return BadField::Hour;
+    if 59 < d.sec {
+        return Err(DateTimeError::InvalidSecond(d.sec));
     }
-    if 59 < min {
-        return BadField::Minute;
+    if 999_999_999 < d.nano {
+        return Err(DateTimeError::InvalidNanosecond(d.nano));
     }
-    if 59 < sec {
-        return BadField::Second;
-    }
-    if 999999999 < nano {
-        return BadField::Nanosecond;
-    }
-    BadField::None
-}
-
-// The refusal of a bad field; where none is bad, that of the range.
-pub fn date_refusal(
-    bad: BadField,
-    month: u8,
-    day: u8,
-    hour: u8,
-    min: u8,
-    sec: u8,
-    nano: u32,
-) -> DateTimeError
-    ensures { refuses (of_date_time result) ≡ said_field bad month day hour min sec nano (refuses (of_date_time OutOfRange)) }
-{
-    match bad {
-        BadField::None => DateTimeError::OutOfRange,
-        BadField::Month => DateTimeError::InvalidMonth(month),
-        BadField::Day => DateTimeError::InvalidDayOfMonth(day),
-        BadField::Hour => DateTimeError::InvalidHour(hour),
-        BadField::Minute => DateTimeError::InvalidMinute(min),
-        BadField::Second => DateTimeError::InvalidSecond(sec),
-        BadField::Nanosecond => DateTimeError::InvalidNanosecond(nano),
-    }
+    Ok(())
 }

@@ -11,7 +11,7 @@ use lib.ListN.{length, drop, get_or, drop_of_length-le}
 use lib.Seq.{drop-cons}
 use borrow.Author.Tests.{le-leb, lt-leb, lt-ltb, leb-true, not-false}
 use Rattle.decimals.specs.Numbers.{is_digit, all_digits, decimal_after, decimal, number}
-use Rattle.decimals.specs.declared.Number.TheVariants.{Value, Bad}
+use Rattle.std.specs.Prelude.{Some, None}
 
 -- what a loop knows of a byte that `is_digit_lem` let pass
 pub record Digit (x : ℕ) : Type 0 where
@@ -58,38 +58,38 @@ module _ (s : List ℕ) (i : ℕ) (inside : i < length s) where
 
 -- ---- the number
 module _ (limit : ℕ) (s : List ℕ) where
-  pub no_digit : length s ≡ 0 → Bad ≡ number limit s
+  pub no_digit : length s ≡ 0 → None ≡ number limit s
   unfolding number
   no_digit h = rw h
 
-  pub bad_digit : all_digits s ≡ false → Bad ≡ number limit s
+  pub bad_digit : all_digits s ≡ false → None ≡ number limit s
   unfolding number
   bad_digit e = rw (e, and-false)
 
-  pub too_large : limit < decimal s → Bad ≡ number limit s
+  pub too_large : limit < decimal s → None ≡ number limit s
   unfolding number
   too_large h = rw (lt-leb (decimal s) limit h, and-false)
 
-  pub good_digits : 0 < length s → all_digits s ≡ true → decimal s ≤ limit → Value (decimal s) ≡ number limit s
+  pub good_digits : 0 < length s → all_digits s ≡ true → decimal s ≤ limit → Some (decimal s) ≡ number limit s
   unfolding number
   good_digits h e k = rw (lt-ltb 0 (length s) h, e, le-leb (decimal s) limit k)
 
 -- a number is at most its limit
-small : (limit d v : ℕ) (a b : Bool) → leb d limit ≡ b → cond (a && b) (Value d) Bad ≡ Value v → v ≤ limit
+small : (limit d v : ℕ) (a b : Bool) → leb d limit ≡ b → cond (a && b) (Some d) None ≡ Some v → v ≤ limit
 small limit d v true true e h = let k : v ≡ d = cc in rw k (leb-true d limit e)
 small limit d v true false e h = let k : v ≡ limit = cc in omega arith
 small limit d v false b e h = let k : v ≡ limit = cc in omega arith
 
-pub number_small : (limit : ℕ) (s : List ℕ) {v : ℕ} → number limit s ≡ Value v → v ≤ limit
+pub number_small : (limit : ℕ) (s : List ℕ) {v : ℕ} → number limit s ≡ Some v → v ≤ limit
 unfolding number
 number_small limit s {v} h = small limit (decimal s) v (ltb 0 (length s) && all_digits s) (leb (decimal s) limit) refl h
 
 -- and has nothing but digits
-middle_holds : (a b c : Bool) (d : ℕ) {v : ℕ} → cond (a && b && c) (Value d) Bad ≡ Value v → b ≡ true
+middle_holds : (a b c : Bool) (d : ℕ) {v : ℕ} → cond (a && b && c) (Some d) None ≡ Some v → b ≡ true
 middle_holds a true c d h = refl
 middle_holds true false c d h = cc
 middle_holds false false c d h = cc
 
-pub number_all_digits : (limit : ℕ) (s : List ℕ) {v : ℕ} → number limit s ≡ Value v → all_digits s ≡ true
+pub number_all_digits : (limit : ℕ) (s : List ℕ) {v : ℕ} → number limit s ≡ Some v → all_digits s ≡ true
 unfolding number
 number_all_digits limit s h = middle_holds (ltb 0 (length s)) (all_digits s) (leb (decimal s) limit) (decimal s) h

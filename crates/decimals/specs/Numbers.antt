@@ -1,7 +1,5 @@
 -- Decimal digits as numbers. A text is the list of its bytes, and each definition but `pair_at` reads a list from its front.
-use Rattle.std.specs.Prelude.{Bool, true, false, cond, ◌&&◌, List, [], ◌∷◌, ℕ, ◌+◌, ◌-◌, ◌*◌, ltb, leb, eqb, length, get_or}
-use Rattle.decimals.specs.declared.Number.{Number}
-use Rattle.decimals.specs.declared.Number.TheVariants.{Value, Bad}
+use Rattle.std.specs.Prelude.{Bool, true, false, cond, ◌&&◌, Option, Some, None, List, [], ◌∷◌, ℕ, ◌+◌, ◌-◌, ◌*◌, ltb, leb, eqb, length, get_or}
 
 -- the first byte is b
 unfoldable pub begins_with : ℕ → List ℕ → Bool
@@ -31,10 +29,10 @@ abbrev pub decimal : List ℕ → ℕ
 decimal s = decimal_after 0 s
 
 -- digits only, at least one, of a value up to the limit: the number in a field of a text, and in a word of a request
-unfoldable pub number : ℕ → List ℕ → Number
-number limit s = cond (ltb 0 (length s) && all_digits s && leb (decimal s) limit) (Value (decimal s)) Bad
+unfoldable pub number : ℕ → List ℕ → Option ℕ
+number limit s = cond (ltb 0 (length s) && all_digits s && leb (decimal s) limit) (Some (decimal s)) None
 
--- what is made of a number's value, and of none
-abbrev pub on_number : {A : Type 0} → Number → A → (ℕ → A) → A
-on_number (Value v) bad next = next v
-on_number Bad bad next = bad
+-- what is made of a number, and of none
+abbrev pub on_number : {A : Type 0} → Option ℕ → A → (ℕ → A) → A
+on_number (Some v) bad next = next v
+on_number None bad next = bad

@@ -6,23 +6,22 @@ use mathlib.Core.List.{List, [], ◌∷◌}
 use Prim.Native.Nat.{ℕ, ◌+◌, ◌<◌, ◌≤◌}
 use lib.IntN.{ℤ, pos}
 use lib.ListN.{length}
+use Rattle.std.specs.Prelude.{Option}
 use Rattle.errors.specs.Refusals.{Refusal, refuses, refuses_in_range_error, refusal, of_parse}
+use Rattle.errors.specs.declared.PrintError.{PrintError}
 use Rattle.errors.specs.declared.ParseDateTimeError.{ParseDateTimeError}
-use Rattle.counts.specs.declared.TimeAnswer.{TimeAnswer}
-use Rattle.counts.specs.declared.DateTimeAnswer.{DateTimeAnswer}
-use Rattle.counts.specs.declared.date_seconds.SecsAnswer.{SecsAnswer}
-use Rattle.seconds.specs.declared.UnixAnswer.{UnixAnswer}
-use Rattle.durations.specs.declared.DurationAnswer.{DurationAnswer}
-use Rattle.durations.specs.declared.OrderingAnswer.{OrderingAnswer}
+use Rattle.errors.specs.declared.CountError.{CountError}
+use Rattle.errors.specs.declared.DateTimeError.{DateTimeError}
+use Rattle.seconds.specs.declared.UnixSeconds.{UnixSeconds}
+use Rattle.durations.specs.declared.Duration.{Duration}
+use Rattle.std.specs.declared.cmp.Ordering.{Ordering}
 use Rattle.counts.specs.Said.{said_time, said_secs, said_date_time, said_unix, said_duration, said_ordering}
 use Rattle.counts.specs.Counts.{new_time, from_date_time, from_unix, to_unix, over_epoch, added, taken, since, compared}
-use Rattle.stages.specs.declared.DateTime.{DateTime}
-use Rattle.stages.specs.declared.Parsed.TheVariants.{Fields, Refused}
-use Rattle.reader.specs.declared.stamp.ReadAnswer.{ReadAnswer}
+use Rattle.counts.specs.declared.TaiTime.{TaiTime}
+use Rattle.dates.specs.declared.DateTime.{DateTime}
+use Rattle.std.specs.Prelude.{Result, Ok, Err}
 use Rattle.stages.specs.Text.{parsed}
 use Rattle.reader.specs.Stamp.{said_read, read_text}
-use Rattle.printer.specs.declared.Printed.{Printed}
-use Rattle.printed_parts.specs.declared.Precision.{Precision}
 use Rattle.printer.specs.Lent.{said}
 use Rattle.printer.specs.Display.{time_text, displayed}
 use Rattle.printer.proofs.Lent.{said_one}
@@ -34,35 +33,35 @@ use Rattle.demands.proofs.Lent.{refusal_leaves, bad_nanos, start_outside, no_roo
 
 -- ---- No two answers of an entry say the same, so no two meet its promise.
 -- of new, try_from_unix_timestamp, to_tai_time, checked_add and checked_sub
-pub one_time_answer : (a b : TimeAnswer) → said_time a ≡ said_time b → a ≡ b
+pub one_time_answer : (a b : Result TaiTime CountError) → said_time a ≡ said_time b → a ≡ b
 one_time_answer = time_one
 
 -- of try_from_date_time
-pub one_date_time_answer : (a b : DateTimeAnswer) → said_date_time a ≡ said_date_time b → a ≡ b
+pub one_date_time_answer : (a b : Result TaiTime DateTimeError) → said_date_time a ≡ said_date_time b → a ≡ b
 one_date_time_answer = date_time_answer_one
 
 -- of date_time_secs, which the reader shares with it
-pub one_secs_answer : (a b : SecsAnswer) → said_secs a ≡ said_secs b → a ≡ b
+pub one_secs_answer : (a b : Result ℤ DateTimeError) → said_secs a ≡ said_secs b → a ≡ b
 one_secs_answer = secs_one
 
 -- of as_unix_secs
-pub one_unix_answer : (a b : UnixAnswer) → said_unix a ≡ said_unix b → a ≡ b
+pub one_unix_answer : (a b : Result UnixSeconds CountError) → said_unix a ≡ said_unix b → a ≡ b
 one_unix_answer = unix_one
 
 -- of checked_duration_since
-pub one_duration_answer : (a b : DurationAnswer) → said_duration a ≡ said_duration b → a ≡ b
+pub one_duration_answer : (a b : Result Duration CountError) → said_duration a ≡ said_duration b → a ≡ b
 one_duration_answer = duration_one
 
 -- of cmp
-pub one_ordering_answer : (a b : OrderingAnswer) → said_ordering a ≡ said_ordering b → a ≡ b
+pub one_ordering_answer : (a b : Result Ordering CountError) → said_ordering a ≡ said_ordering b → a ≡ b
 one_ordering_answer = ordering_one
 
 -- of from_str
-pub one_read_answer : (a b : ReadAnswer) → said_read a ≡ said_read b → a ≡ b
+pub one_read_answer : (a b : Result TaiTime ParseDateTimeError) → said_read a ≡ said_read b → a ≡ b
 one_read_answer = read_one
 
 -- of display
-pub one_printed_answer : (a b : Printed) → said a ≡ said b → a ≡ b
+pub one_printed_answer : (a b : Result ℕ PrintError) → said a ≡ said b → a ≡ b
 one_printed_answer = said_one
 
 -- ---- A refusal has one of the numbers that document 01 gives to its entry.
@@ -104,7 +103,7 @@ compared_refuses = compared_only
 pub read_refuses : (limit : ℕ) (epoch : ℤ) (text : List ℕ) → OnlyRefuses (7 ∷ 8 ∷ 9 ∷ []) (0 ∷ 1 ∷ 2 ∷ 3 ∷ 4 ∷ 5 ∷ 6 ∷ []) (read_text limit epoch text)
 read_refuses = read_only
 
-module _ (secs : ℤ) (nanos : ℕ) (epoch : ℤ) (precision : Precision) (line : List ℕ) (at : ℕ) where
+module _ (secs : ℤ) (nanos : ℕ) (epoch : ℤ) (precision : Option ℕ) (line : List ℕ) (at : ℕ) where
   -- printing: 11, 12 or 13
   pub displayed_refuses : OnlyRefuses (11 ∷ 12 ∷ 13 ∷ []) [] (displayed secs nanos epoch precision line at).0
   displayed_refuses = displayed_only secs nanos epoch precision line at
@@ -128,10 +127,10 @@ module _ (secs : ℤ) (nanos : ℕ) (epoch : ℤ) (precision : Precision) (line 
 
 module _ (limit : ℕ) (epoch : ℤ) (text : List ℕ) where
   -- A text error beats a date error: it is the answer whatever the epoch and the fields,
-  pub text_error_first : {e : ParseDateTimeError} → parsed limit text ≡ Refused e → read_text limit epoch text ≡ of_parse e
+  pub text_error_first : {e : ParseDateTimeError} → parsed limit text ≡ Err e → read_text limit epoch text ≡ of_parse e
   text_error_first = text_refused limit epoch text
 
   -- and a date error says that the whole text was read, and is the one that the fields give.
   pub date_error_last : {r : Refusal} → read_text limit epoch text ≡ refuses_in_range_error r
-      → (f : DateTime) × (parsed limit text ≡ Fields f) × (from_date_time epoch f.year f.month f.day f.hour f.min f.sec f.nano ≡ refuses r)
+      → (f : DateTime) × (parsed limit text ≡ Ok f) × (from_date_time epoch f.year f.month f.day f.hour f.min f.sec f.nano ≡ refuses r)
   date_error_last = read_whole limit epoch text

@@ -8,6 +8,7 @@ use Prim.Native.Nat.{ℕ, ◌+◌, ◌≤◌, ◌<◌}
 use native.Mathlib.Omega.{arith}
 use lib.IntN.{ℤ, pos, neg_ℤ, suc_ℤ, ◌+ℤ◌, ◌-ℤ◌}
 use lib.ListN.{length, take, drop}
+use Rattle.std.specs.Prelude.{Option}
 use Rattle.integers.specs.Integers.{Floor, floor_div, floor_mod}
 use Rattle.integers.proofs.Floor.{floor_law}
 use Rattle.errors.specs.Refusals.{gives}
@@ -19,7 +20,6 @@ use Rattle.moments.specs.Moments.{time_of_day, moment_at, ValidTime, second_of_d
 use Rattle.calendar.proofs.Walk.{walk_valid, day_walk, walk_day}
 use Rattle.calendar.proofs.Cycle.{walk_cycle, walk_to_year_0}
 use Rattle.moments.proofs.Moments.{seconds_moment, moment_seconds}
-use Rattle.printed_parts.specs.declared.Precision.{Precision}
 use Rattle.printer.specs.Text.{text}
 use Rattle.printer.specs.Display.{instant, time_text, displayed}
 use Rattle.demands.specs.Values.{Divides, month_lengths, moment}
@@ -130,7 +130,7 @@ pub moment_of_the_seconds : (m : Moment) → Valid m.date → ValidTime m.time �
 moment_of_the_seconds = moment_seconds
 
 -- ---- What is printed
-module _ (secs : ℤ) (nanos : ℕ) (epoch : ℤ) (precision : Precision) where
+module _ (secs : ℤ) (nanos : ℕ) (epoch : ℤ) (precision : Option ℕ) where
   -- The text of a count is that of the date reached by walking the whole days of seconds plus epoch,
   pub prints_the_walk : time_text secs nanos epoch precision
       ≡ text (instant (record { date = walk (floor_div 86400 (secs +ℤ epoch)); time = time_of_day (floor_mod 86400 (secs +ℤ epoch)) }) nanos) precision

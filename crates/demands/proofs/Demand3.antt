@@ -8,14 +8,14 @@ use native.Mathlib.Omega.{arith}
 use lib.IntN.{ℤ, pos, nat_abs, ◌+ℤ◌, ◌-ℤ◌}
 use lib.ListN.{take, drop}
 use lib.Signed.{◌<ℤ◌}
+use Rattle.std.specs.Prelude.{None}
 use Rattle.errors.specs.Refusals.{gives, refuses, refusal}
 use Rattle.moments.specs.declared.Moment.{Moment}
 use Rattle.calendar.specs.Walk.{Valid}
 use Rattle.moments.specs.Moments.{moment_at, ValidTime}
 use Rattle.counts.specs.Counts.{from_date_time, exact, added, taken, since, compared}
-use Rattle.durations.specs.declared.Ordering.{Ordering}
+use Rattle.std.specs.declared.cmp.Ordering.{Ordering}
 use Rattle.reader.specs.Stamp.{read_text, year_limit}
-use Rattle.printed_parts.specs.declared.Precision.TheVariants.{Default}
 use Rattle.printer.specs.Display.{time_text, displayed}
 use Rattle.demands.specs.Values.{I64, Timestamp, Duration, moment, Reaches, EarlierReading, Stand, Read, TimeLiesAt, DurationLiesAt}
 use Rattle.demands.proofs.DatesWalked.{accepted, one_count}
@@ -79,15 +79,15 @@ module _ (secs secs' : ℤ) (nanos nanos' : ℕ) where
 -- ---- (d) Text, at default precision
 -- Two timestamps that print the same over one epoch are the same,
 pub one_timestamp_a_text : (epoch : ℤ) {secs secs' : ℤ} {nanos nanos' : ℕ} → I64 epoch → Timestamp secs nanos → Timestamp secs' nanos'
-    → time_text secs nanos epoch Default ≡ time_text secs' nanos' epoch Default → (secs ≡ secs') × (nanos ≡ nanos')
+    → time_text secs nanos epoch None ≡ time_text secs' nanos' epoch None → (secs ≡ secs') × (nanos ≡ nanos')
 one_timestamp_a_text = one_text
 
 module _ (secs : ℤ) (nanos : ℕ) (epoch : ℤ) (t : Timestamp secs nanos) (within : nat_abs (moment_at (secs +ℤ epoch)).date.year ≤ year_limit) where
   -- the text reads back as the timestamp over the same epoch, if the year is within ±2147483647,
-  pub reads_back : read_text year_limit epoch (time_text secs nanos epoch Default) ≡ gives (secs, nanos)
+  pub reads_back : read_text year_limit epoch (time_text secs nanos epoch None) ≡ gives (secs, nanos)
   reads_back = back year_limit secs nanos epoch t (omega arith) (omega arith)
 
   -- and so does what printing has written into a line.
-  pub reads_back_from_the_line : (line : List ℕ) (at n : ℕ) → (displayed secs nanos epoch Default line at).0 ≡ gives n
-      → read_text year_limit epoch (take n (drop at (displayed secs nanos epoch Default line at).1)) ≡ gives (secs, nanos)
-  reads_back_from_the_line line at n e = rw (in_line secs nanos epoch Default line at e) (back year_limit secs nanos epoch t (omega arith) (omega arith))
+  pub reads_back_from_the_line : (line : List ℕ) (at n : ℕ) → (displayed secs nanos epoch None line at).0 ≡ gives n
+      → read_text year_limit epoch (take n (drop at (displayed secs nanos epoch None line at).1)) ≡ gives (secs, nanos)
+  reads_back_from_the_line line at n e = rw (in_line secs nanos epoch None line at e) (back year_limit secs nanos epoch t (omega arith) (omega arith))

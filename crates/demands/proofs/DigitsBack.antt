@@ -9,7 +9,7 @@ use lib.Dec.{leb}
 use lib.ListN.{length}
 use borrow.Author.Tests.{le-leb, lt-ltb, ne_eqb, leb-true}
 use Rattle.decimals.specs.Numbers.{begins_with, is_digit, all_digits, decimal_after, decimal, number}
-use Rattle.decimals.specs.declared.Number.TheVariants.{Value}
+use Rattle.std.specs.Prelude.{Some}
 use Rattle.digits.specs.Digits.{digits}
 use Rattle.digits.proofs.Decimal.{digits_length}
 
@@ -55,7 +55,7 @@ begins_not b [] r l h e = absurd (omega arith)
 begins_not b (x ∷ a) r l h e = ne_eqb x b (λ q. omega (arith, digit_low x ((and-eq-true_iff (is_digit x) (all_digits a)).0 e).0))
 
 -- THE NUMBER READS BACK
-pub number_digits : (limit w n : ℕ) → 0 < w → n < 10 ^ w → n ≤ limit → number limit (digits w n) ≡ Value n
+pub number_digits : (limit w n : ℕ) → 0 < w → n < 10 ^ w → n ≤ limit → number limit (digits w n) ≡ Some n
 unfolding number
 number_digits limit w n l h k =
     let s = digits w n in

@@ -10,23 +10,21 @@ use lib.IntN.{ℤ}
 use lib.ListN.{length, get_or, length-take, length-drop}
 use lib.Seq.{get_or-take, get_or-drop, take_all}
 use borrow.Author.Tests.{ltb-true, ltb-false}
+use Rattle.std.proofs.lemmas.Bool.{false≢true}
 use Rattle.integers.proofs.Signed.{Tri, before, same, after, tri}
 use Rattle.errors.specs.Refusals.{gives, refuses, refusal, of_parse}
 use Rattle.errors.specs.declared.ParseDateTimeError.{ParseDateTimeError}
 use Rattle.errors.specs.declared.ParseDateTimeError.TheVariants.{MissingField, InvalidFieldWidth, InvalidFieldValue, RangeError}
 use Rattle.errors.proofs.Outcomes.{refuses_not, inner_not}
 use Rattle.decimals.specs.Numbers.{begins_with, is_digit, all_digits, number, on_number}
-use Rattle.decimals.specs.declared.Number.{Number}
-use Rattle.decimals.specs.declared.Number.TheVariants.{Value, Bad}
+use Rattle.std.specs.Prelude.{Option, Some, None, Ok, Err}
 use Rattle.decimals.proofs.Values.{is_digit_lem, bad_digit, number_all_digits}
 use Rattle.fields.specs.Fields as Fields
 use Rattle.fields.specs.Fields.{unless, is_delimiter, width, delimited, behind, two_digits, nanoseconds, fraction, with_fraction, seconds}
 use Rattle.fields.specs.declared.Delimiter.{Delimiter}
 use Rattle.fields.specs.declared.Delimiter.TheVariants.{Hyphen, SpaceOrT, Colon, Point}
 use Rattle.fields.specs.declared.Field.{Field}
-use Rattle.fields.specs.declared.Seconds.{Seconds}
-use Rattle.stages.specs.Text.{on_field, field, on_seconds, from_month, with_sign, from_year, without_sign, parsed}
-use Rattle.stages.specs.declared.Parsed.{Parsed}
+use Rattle.stages.specs.Text.{Parsed, on_field, field, on_seconds, from_month, with_sign, from_year, without_sign, parsed}
 use Rattle.reader.specs.Stamp.{stamped, read_text}
 use Rattle.demands.specs.Values.{DigitOrDelimiter}
 use Rattle.demands.proofs.TextOrder.{bad_year_is_9, bad_field_is_9, bad_seconds_are_9}
@@ -37,11 +35,11 @@ pub year_not_of_digits_is_9 : (limit : ℕ) (epoch : ℤ) (text : List ℕ) → 
 year_not_of_digits_is_9 limit epoch text d h e = bad_year_is_9 limit epoch text d h (sym (bad_digit limit _ e))
 
 -- at the stage of the month, the day, the hour and the minute,
-pub field_not_of_digits_is_9 : (d : Delimiter) (s : List ℕ) (next : ℕ → List ℕ → Parsed) → width d s ≡ 2 → all_digits (Fields.before d s) ≡ false → field d s next ≡ Parsed.Refused InvalidFieldValue
+pub field_not_of_digits_is_9 : (d : Delimiter) (s : List ℕ) (next : ℕ → List ℕ → Parsed) → width d s ≡ 2 → all_digits (Fields.before d s) ≡ false → field d s next ≡ Err InvalidFieldValue
 field_not_of_digits_is_9 d s next w e = bad_field_is_9 d s next w (sym (bad_digit 99 _ e))
 
 -- and at that of the second; `TextOrder` has that the first stage which refuses is the answer.
-pub seconds_not_of_digits_are_9 : (s : List ℕ) → width Point s ≡ 2 → all_digits (Fields.before Point s) ≡ false → seconds s ≡ Seconds.Refused InvalidFieldValue
+pub seconds_not_of_digits_are_9 : (s : List ℕ) → width Point s ≡ 2 → all_digits (Fields.before Point s) ≡ false → seconds s ≡ Err InvalidFieldValue
 seconds_not_of_digits_are_9 s w e = bad_seconds_are_9 s w (sym (bad_digit 99 _ e))
 
 -- ---- bytes that are digits or delimiters
@@ -66,7 +64,7 @@ at_width d (x ∷ s) h = go (is_delimiter d x) refl h (at_width d s)
     go false e l k = k (omega arith)
 
 -- ---- a field, and what follows it
-module _ (limit : ℕ) (d : Delimiter) (s : List ℕ) {v : ℕ} (n : number limit (Fields.before d s) ≡ Value v) where
+module _ (limit : ℕ) (d : Delimiter) (s : List ℕ) {v : ℕ} (n : number limit (Fields.before d s) ≡ Some v) where
   plain_field : Plain (Fields.before d s)
   plain_field = plain_digits _ (number_all_digits limit (Fields.before d s) n)
 
@@ -89,33 +87,33 @@ module _ (limit : ℕ) (d : Delimiter) (s : List ℕ) {v : ℕ} (n : number limi
 
 -- ---- what was read whole
 abbrev IfRead : Type 0 → Parsed → Type 0
-IfRead A (Parsed.Fields f) = A
-IfRead A (Parsed.Refused e) = Unit {0}
+IfRead A (Ok f) = A
+IfRead A (Err e) = Unit {0}
 
 anyway : {A : Type 0} (p : Parsed) → A → IfRead A p
-anyway (Parsed.Fields f) x = x
-anyway (Parsed.Refused e) x = tt
+anyway (Ok f) x = x
+anyway (Err e) x = tt
 
 carried : {A B : Type 0} (p : Parsed) → (A → B) → IfRead A p → IfRead B p
-carried (Parsed.Fields f) k x = k x
-carried (Parsed.Refused e) k x = tt
+carried (Ok f) k x = k x
+carried (Err e) k x = tt
 
 a_field : (d : Delimiter) (s : List ℕ) (next : ℕ → List ℕ → Parsed) → ((v : ℕ) (s : List ℕ) → IfRead (Plain s) (next v s)) → IfRead (Plain s) (field d s next)
 unfolding field two_digits
 a_field d s next k = go (eqb (width d s) 2) (number 99 (Fields.before d s)) (delimited d s) refl refl
   where
-    go : (b : Bool) (n : Number) (c : Bool) → number 99 (Fields.before d s) ≡ n → delimited d s ≡ c
-        → IfRead (Plain s) (on_field (unless b (Field.Refused InvalidFieldWidth) (on_number n (Field.Refused InvalidFieldValue) (cond c Field.Got Field.Last))) (λ v. next v (behind d s)))
+    go : (b : Bool) (n : Option ℕ) (c : Bool) → number 99 (Fields.before d s) ≡ n → delimited d s ≡ c
+        → IfRead (Plain s) (on_field (unless b (Err InvalidFieldWidth) (on_number n (Err InvalidFieldValue) (λ v. Ok (cond c (Field.Got v) (Field.Last v))))) (λ v. next v (behind d s)))
     go false n c e h = tt
-    go true Bad c e h = tt
-    go true (Value v) false e h = tt
-    go true (Value v) true e h = carried (next v (behind d s)) (rest_decides 99 d s e h) (k v (behind d s))
+    go true None c e h = tt
+    go true (Some v) false e h = tt
+    go true (Some v) true e h = carried (next v (behind d s)) (rest_decides 99 d s e h) (k v (behind d s))
 
 the_fraction : (s : List ℕ) (sec : ℕ) (next : ℕ → ℕ → Parsed) → IfRead (Plain s) (on_seconds (fraction sec s) next)
 unfolding fraction
 the_fraction s sec next = go (ltb 0 (length s)) (all_digits s) refl
   where
-    go : (b c : Bool) → all_digits s ≡ c → IfRead (Plain s) (on_seconds (unless b (Seconds.Refused MissingField) (unless c (Seconds.Refused InvalidFieldValue) (Seconds.Got sec (nanoseconds s)))) next)
+    go : (b c : Bool) → all_digits s ≡ c → IfRead (Plain s) (on_seconds (unless b (Err MissingField) (unless c (Err InvalidFieldValue) (Ok (record { sec = sec; nano = nanoseconds s })))) next)
     go false c e = tt
     go true false e = tt
     go true true e = anyway (next sec (nanoseconds s)) (plain_digits s e)
@@ -124,12 +122,12 @@ the_seconds : (s : List ℕ) (next : ℕ → ℕ → Parsed) → IfRead (Plain s
 unfolding seconds two_digits
 the_seconds s next = go (eqb (width Point s) 2) (number 99 (Fields.before Point s)) (delimited Point s) refl refl
   where
-    go : (b : Bool) (n : Number) (c : Bool) → number 99 (Fields.before Point s) ≡ n → delimited Point s ≡ c
-        → IfRead (Plain s) (on_seconds (with_fraction (unless b (Field.Refused InvalidFieldWidth) (on_number n (Field.Refused InvalidFieldValue) (cond c Field.Got Field.Last))) (behind Point s)) next)
+    go : (b : Bool) (n : Option ℕ) (c : Bool) → number 99 (Fields.before Point s) ≡ n → delimited Point s ≡ c
+        → IfRead (Plain s) (on_seconds (with_fraction (unless b (Err InvalidFieldWidth) (on_number n (Err InvalidFieldValue) (λ v. Ok (cond c (Field.Got v) (Field.Last v))))) (behind Point s)) next)
     go false n c e h = tt
-    go true Bad c e h = tt
-    go true (Value v) false e h = anyway (next v 0) (plain_end 99 Point s e h)
-    go true (Value v) true e h = carried (on_seconds (fraction v (behind Point s)) next) (rest_decides 99 Point s e h) (the_fraction (behind Point s) v next)
+    go true None c e h = tt
+    go true (Some v) false e h = anyway (next v 0) (plain_end 99 Point s e h)
+    go true (Some v) true e h = carried (on_seconds (fraction v (behind Point s)) next) (rest_decides 99 Point s e h) (the_fraction (behind Point s) v next)
 
 behind_the_year : (year : ℤ) (s : List ℕ) → IfRead (Plain s) (from_month year s)
 unfolding from_month
@@ -144,12 +142,12 @@ the_year : (limit : ℕ) (negative : Bool) (s : List ℕ) → IfRead (Plain s) (
 unfolding from_year
 the_year limit negative s = go (delimited Hyphen s) (leb 4 (width Hyphen s)) (number limit (Fields.before Hyphen s)) refl refl
   where
-    go : (c b : Bool) (n : Number) → delimited Hyphen s ≡ c → number limit (Fields.before Hyphen s) ≡ n
-        → IfRead (Plain s) (unless c (Parsed.Refused MissingField) (unless b (Parsed.Refused InvalidFieldWidth) (on_number n (Parsed.Refused InvalidFieldValue) λ size. from_month (with_sign negative size) (behind Hyphen s))))
+    go : (c b : Bool) (n : Option ℕ) → delimited Hyphen s ≡ c → number limit (Fields.before Hyphen s) ≡ n
+        → IfRead (Plain s) (unless c (Err MissingField) (unless b (Err InvalidFieldWidth) (on_number n (Err InvalidFieldValue) λ size. from_month (with_sign negative size) (behind Hyphen s))))
     go false b n h e = tt
     go true false n h e = tt
-    go true true Bad h e = tt
-    go true true (Value v) h e = carried (from_month (with_sign negative v) (behind Hyphen s)) (rest_decides limit Hyphen s e h) (behind_the_year (with_sign negative v) (behind Hyphen s))
+    go true true None h e = tt
+    go true true (Some v) h e = carried (from_month (with_sign negative v) (behind Hyphen s)) (rest_decides limit Hyphen s e h) (behind_the_year (with_sign negative v) (behind Hyphen s))
 
 -- the outer sign is at most the first byte
 behind_the_sign : (text : List ℕ) (place : ℕ) → Plain (without_sign text) → suc place < length text → DigitOrDelimiter (get_or text (suc place) 0)
@@ -162,18 +160,15 @@ behind_the_sign (x ∷ s) place k l = go (begins_with 43 (x ∷ s) || begins_wit
     go false k = k (suc place) l
 
 -- ---- a `+`
-false_not : false ≡ true → ⊥
-false_not h = let z : ◌≡◌ {A = ℕ} 0 1 = ap (λ b. cond b 1 0) h in omega arith
-
 plus_is_no_digit : is_digit 43 ≡ true → ⊥
 plus_is_no_digit h = omega (arith, (is_digit_lem h).low)
 
 plus_is_no_delimiter : (d : Delimiter) × (is_delimiter d 43 ≡ true) → ⊥
 unfolding is_delimiter
-plus_is_no_delimiter (Hyphen, h) = false_not h
-plus_is_no_delimiter (SpaceOrT, h) = false_not h
-plus_is_no_delimiter (Colon, h) = false_not h
-plus_is_no_delimiter (Point, h) = false_not h
+plus_is_no_delimiter (Hyphen, h) = false≢true h
+plus_is_no_delimiter (SpaceOrT, h) = false≢true h
+plus_is_no_delimiter (Colon, h) = false≢true h
+plus_is_no_delimiter (Point, h) = false≢true h
 
 -- past the end of a text there is none
 inside : (text : List ℕ) (place : ℕ) → get_or text place 0 ≡ 43 → place < length text
@@ -194,8 +189,8 @@ module _ (limit : ℕ) (epoch : ℤ) (text : List ℕ) (place : ℕ) {t : ℤ ×
       refused (RangeError d) h = inner_not h
 
       go : (p : Parsed) → IfRead (Plain (without_sign text)) p → stamped epoch p ≡ gives t → DigitOrDelimiter (get_or text (suc place) 0)
-      go (Parsed.Fields f) k h = behind_the_sign text place k l
-      go (Parsed.Refused e) k h = absurd (refused e h)
+      go (Ok f) k h = behind_the_sign text place k l
+      go (Err e) k h = absurd (refused e h)
 
   -- so that a text with a `+` behind its first byte is refused.
   pub no_inner_plus : get_or text (suc place) 0 ≡ 43 → ⊥

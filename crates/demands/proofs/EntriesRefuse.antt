@@ -5,6 +5,7 @@ use Prim.Native.Nat.{ℕ, ◌-◌, ◌/◌}
 use lib.Dec.{ltb, leb}
 use lib.IntN.{ℤ, pos, ◌+ℤ◌, ◌-ℤ◌}
 use lib.ListN.{length}
+use Rattle.std.specs.Prelude.{Option}
 use Rattle.integers.specs.Integers.{is_i64, floor_div}
 use Rattle.errors.specs.Refusals.{refusal, Outcome, gives, refuses, refuses_in_range_error}
 use Rattle.calendar.specs.Walk.{month_length}
@@ -12,8 +13,8 @@ use Rattle.moments.specs.Moments.{seconds_of}
 use Rattle.counts.specs.Counts.{with_nanos, new_time, date_time_secs, from_date_time, from_unix, to_unix, over_epoch, time_at, added, taken, since, compared}
 use Rattle.stages.specs.Text.{parsed}
 use Rattle.reader.specs.Stamp.{inside_range_error, stamped, read_text}
-use Rattle.stages.specs.declared.Parsed.{Parsed}
-use Rattle.printed_parts.specs.declared.Precision.{Precision}
+use Rattle.std.specs.Prelude.{Ok, Err}
+use Rattle.stages.specs.Text.{Parsed}
 use Rattle.printer.specs.Lent.{by_room, answer}
 use Rattle.printer.specs.Display.{time_text, displayed}
 use Rattle.demands.specs.Values.{moment}
@@ -86,8 +87,8 @@ in_range_error_only own (refuses r) (a_refusal t) = within_range_error t
 in_range_error_only own (refuses_in_range_error r) (within_range_error t) = absurd t
 
 stamped_only : (epoch : ℤ) (p : Parsed) → OnlyRefuses texts dates (stamped epoch p)
-stamped_only epoch (Parsed.Fields f) = in_range_error_only texts _ (from_date_only epoch f.year f.month f.day f.hour f.min f.sec f.nano)
-stamped_only epoch (Parsed.Refused e) = parse_only e
+stamped_only epoch (Ok f) = in_range_error_only texts _ (from_date_only epoch f.year f.month f.day f.hour f.min f.sec f.nano)
+stamped_only epoch (Err e) = parse_only e
 
 pub read_only : (limit : ℕ) (epoch : ℤ) (text : List ℕ) → OnlyRefuses texts dates (read_text limit epoch text)
 unfolding read_text
@@ -102,7 +103,7 @@ answer_only line at text = go (ltb (length line) at) (ltb (length line - at) (le
     go false true = a_refusal tt
     go false false = a_value
 
-pub displayed_only : (secs : ℤ) (nanos : ℕ) (epoch : ℤ) (precision : Precision) (line : List ℕ) (at : ℕ) → OnlyRefuses (11 ∷ 12 ∷ 13 ∷ []) [] (displayed secs nanos epoch precision line at).0
+pub displayed_only : (secs : ℤ) (nanos : ℕ) (epoch : ℤ) (precision : Option ℕ) (line : List ℕ) (at : ℕ) → OnlyRefuses (11 ∷ 12 ∷ 13 ∷ []) [] (displayed secs nanos epoch precision line at).0
 unfolding displayed
 displayed_only secs nanos epoch precision line at = go (ltb nanos 1000000000)
   where

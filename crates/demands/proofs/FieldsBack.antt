@@ -9,12 +9,11 @@ use lib.Seq.{drop-append-add, take-append_seam, take_all}
 use borrow.Author.Tests.{le-leb, lt-ltb, ne_eqb}
 use Rattle.decimals.specs.Numbers.{begins_with, is_digit, all_digits, decimal_after}
 use Rattle.fields.specs.Fields.{is_delimiter, width, before, delimited, behind, two_digits, nanoseconds, seconds}
-use Rattle.stages.specs.Text.{field, from_month, with_sign, from_year, without_sign}
+use Rattle.stages.specs.Text.{Parsed, field, from_month, with_sign, from_year, without_sign}
 use Rattle.fields.specs.declared.Delimiter.{Delimiter}
 use Rattle.fields.specs.declared.Delimiter.TheVariants.{Hyphen, SpaceOrT, Colon, Point}
 use Rattle.fields.specs.declared.Field.TheVariants as Field
-use Rattle.fields.specs.declared.Seconds.TheVariants as Seconds
-use Rattle.stages.specs.declared.Parsed.{Parsed}
+use Rattle.std.specs.Prelude.{Ok}
 use Rattle.fields.proofs.Tenths.{good_fraction}
 use Rattle.digits.specs.Digits.{digits}
 use Rattle.digits.proofs.Decimal.{digits_length}
@@ -54,7 +53,7 @@ width_all d (x ∷ a) h = let k = (and-eq-true_iff (is_digit x) (all_digits a)).
 
 -- ---- a field of two digits
 module _ (d : Delimiter) (v : ℕ) (small : v < 100) where
-  two_back : (y : ℕ) (r : List ℕ) → is_delimiter d y ≡ true → two_digits d (digits 2 v ++ (y ∷ r)) ≡ Field.Got v
+  two_back : (y : ℕ) (r : List ℕ) → is_delimiter d y ≡ true → two_digits d (digits 2 v ++ (y ∷ r)) ≡ Ok (Field.Got v)
   unfolding two_digits
   two_back y r is =
       let h = all_digits_lem 2 v in
@@ -64,7 +63,7 @@ module _ (d : Delimiter) (v : ℕ) (small : v < 100) where
   unfolding field
   field_back y r next is = rw (two_back y r is, behind_digits d (digits 2 v) y r is (all_digits_lem 2 v))
 
-  two_last : two_digits d (digits 2 v) ≡ Field.Last v
+  two_last : two_digits d (digits 2 v) ≡ Ok (Field.Last v)
   unfolding two_digits
   two_last =
       let w : width d (digits 2 v) ≡ 2 = width_all d (digits 2 v) (all_digits_lem 2 v) ∙ digits_length 2 v in
@@ -79,9 +78,9 @@ none : 0 ≡ nanoseconds []
 unfolding nanoseconds decimal_after
 none = refl
 
-pub seconds_back : (v : ℕ) → v < 100 → (t : List ℕ) (n : ℕ) → all_digits t ≡ true → nanoseconds t ≡ n → seconds (digits 2 v ++ pointed t) ≡ Seconds.Got v n
+pub seconds_back : (v : ℕ) → v < 100 → (t : List ℕ) (n : ℕ) → all_digits t ≡ true → nanoseconds t ≡ n → seconds (digits 2 v ++ pointed t) ≡ Ok (record { sec = v; nano = n })
 unfolding seconds
-seconds_back v h [] n d e = rw (append-nil, two_last Point v h) (ap (Seconds.Got v) (none ∙ e))
+seconds_back v h [] n d e = rw (append-nil, two_last Point v h) (ap (λ k. Ok (record { sec = v; nano = k })) (none ∙ e))
 seconds_back v h (x ∷ t) n d e =
     rw (two_back Point v h 46 (x ∷ t) point_is, behind_digits Point (digits 2 v) 46 (x ∷ t) point_is (all_digits_lem 2 v))
     (sym (good_fraction v (x ∷ t) (omega arith) d e))

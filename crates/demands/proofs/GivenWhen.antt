@@ -9,13 +9,13 @@ use lib.Dec.{leb, ltb}
 use lib.IntN.{ℤ, pos, negsuc, ◌+ℤ◌, ◌-ℤ◌}
 use lib.ListN.{length}
 use borrow.Author.Tests.{leb-true, leb-false, ltb-true, ltb-false, lt-ltb}
+use Rattle.std.specs.Prelude.{Option}
 use Rattle.integers.specs.Integers.{is_i64, floor_div, floor_mod}
 use Rattle.errors.specs.Refusals.{Refusal, refusal, Outcome, gives, refuses, refuses_in_range_error, check}
 use Rattle.errors.proofs.Outcomes.{refuses_one, refuses_not}
 use Rattle.calendar.specs.Walk.{Valid, date, month_length}
 use Rattle.moments.specs.Moments.{ValidTime, seconds_of}
 use Rattle.counts.specs.Counts.{representable, good_nanos, with_nanos, new_time, date_time_secs, from_date_time, to_unix, from_unix, over_epoch, exact, time_at, duration_at, added, taken, since, order, compared}
-use Rattle.printed_parts.specs.declared.Precision.{Precision}
 use Rattle.printer.specs.Display.{time_text, displayed}
 use Rattle.demands.specs.Values.{LeavesI64, moment}
 use Rattle.demands.specs.GivenWhen as When
@@ -181,7 +181,7 @@ module _ (secs : ℤ) (nanos : ℕ) where
   over_epoch_10_exactly old new = good_then nanos _ (leaves (old -ℤ new +ℤ secs) _)
 
 -- ---- Printing
-module _ (secs : ℤ) (nanos : ℕ) (epoch : ℤ) (precision : Precision) (line : List ℕ) (at : ℕ) where
+module _ (secs : ℤ) (nanos : ℕ) (epoch : ℤ) (precision : Option ℕ) (line : List ℕ) (at : ℕ) where
   -- Printing is refused by a number exactly if the table says so: 11, then 12, then 13.
   pub print_refused_exactly : (q : Refusal) → ((displayed secs nanos epoch precision line at).0 ≡ refuses q) ↔ PrintRefused secs nanos epoch precision line at q
   print_refused_exactly q = (λ e. go (ltb nanos 1000000000) (ltb (length line) at) (ltb (length line - at) (length (time_text secs nanos epoch precision))) refl refl refl e, back q)

@@ -10,9 +10,9 @@ use lib.IntN.{ℤ, pos}
 use lib.ListN.{length, take, drop, length-take}
 use lib.Seq.{drop-append-add, take-append_seam}
 use borrow.Author.Tests.{lt-ltb, le-ltb, ltb-false}
+use Rattle.std.specs.Prelude.{Option}
 use Rattle.errors.specs.Refusals.{Refusal, Outcome, gives, refuses, refusal}
 use Rattle.errors.proofs.Outcomes.{gives_one, refuses_not}
-use Rattle.printed_parts.specs.declared.Precision.{Precision}
 use Rattle.printer.specs.Lent.{by_room}
 use Rattle.printer.specs.Display.{time_text, displayed}
 
@@ -29,7 +29,7 @@ part a b c at n e f =
     rw (← e, ← f, append_assoc)
     (ap (take (length b)) (ap (λ k. drop k (a ++ (b ++ c))) (sym (add-zero (length a))) ∙ drop-append-add a (b ++ c) 0) ∙ take-append_seam b c)
 
-module _ (secs : ℤ) (nanos : ℕ) (epoch : ℤ) (precision : Precision) (line : List ℕ) (at : ℕ) where
+module _ (secs : ℤ) (nanos : ℕ) (epoch : ℤ) (precision : Option ℕ) (line : List ℕ) (at : ℕ) where
   by_tests : displayed secs nanos epoch precision line at
       ≡ tested line at (time_text secs nanos epoch precision) (ltb nanos 1000000000) (ltb (length line) at) (ltb (length line - at) (length (time_text secs nanos epoch precision)))
   unfolding displayed by_room

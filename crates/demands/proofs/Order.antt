@@ -14,8 +14,8 @@ use Rattle.errors.proofs.Outcomes.{gives_one, passed}
 use Rattle.moments.specs.Moments.{moment_at}
 use Rattle.moments.proofs.Moments.{moment_order}
 use Rattle.counts.specs.Counts.{exact, order, compared}
-use Rattle.durations.specs.declared.Ordering.{Ordering}
-use Rattle.durations.specs.declared.Ordering.TheVariants.{Less, Equal, Greater}
+use Rattle.std.specs.declared.cmp.Ordering.{Ordering}
+use Rattle.std.specs.declared.cmp.Ordering.TheVariants.{Less, Equal, Greater}
 use Rattle.demands.specs.Values.{EarlierReading, by_moment, by_nanos, Stand, Read}
 
 split : (secs : ℤ) (nanos : ℕ) → nanos < 1000000000 → Floor 1000000000 (exact secs nanos) secs nanos

@@ -8,6 +8,7 @@ use lib.Dec.{T, eqb, ltb, eqb→eq, ltb→lt}
 use lib.IntN.{ℤ, pos, negsuc}
 use mir.Facts.{and_yes}
 use borrow.Author.Tests.{lt-ltb}
+use Rattle.std.specs.Prelude.{None}
 use Rattle.integers.specs.Integers.{is_i64, floor_div, floor_mod}
 use Rattle.calendar.specs.Walk.{divides, is_leap, month_row, month_length}
 use Rattle.calendar.specs.Closed.{leap_years, year_start, sum_to, day_of_year, day_number}
@@ -22,10 +23,8 @@ use Rattle.printed_parts.specs.Text as Parts
 use Rattle.printer.specs.Text as Printed
 use Rattle.errors.specs.Refusals.{Refusal, Outcome, gives, refuses, refuses_in_range_error}
 use Rattle.moments.specs.declared.Moment.{Moment}
-use Rattle.stages.specs.Text.{parsed}
-use Rattle.stages.specs.declared.Parsed.{Parsed}
-use Rattle.stages.specs.declared.Parsed.TheVariants.{Fields, Refused}
-use Rattle.printed_parts.specs.declared.Precision.TheVariants.{Default}
+use Rattle.stages.specs.Text.{Parsed, parsed}
+use Rattle.std.specs.Prelude.{Ok, Err}
 use Rattle.printer.specs.Text.{text}
 use Rattle.printer.specs.Lent.{answer, line_after}
 use Rattle.printer.specs.Display.{instant, time_text, displayed}
@@ -103,10 +102,10 @@ same_outcome (refuses_in_range_error r) (refuses_in_range_error q) t = ap refuse
 -- ---- the test
 -- the fields that a row's text says count the row's seconds, and print as the row's text
 abbrev prints_as : ℤ → ℤ → ℕ → List ℕ → Parsed → Bool
-prints_as epoch secs nanos said (Fields f) =
+prints_as epoch secs nanos said (Ok f) =
     same (from_date_time epoch f.year f.month f.day f.hour f.min f.sec f.nano) (gives (secs, nanos))
-    && same_list eqb (text (instant (moment f.year f.month f.day f.hour f.min f.sec) nanos) Default) said
-prints_as epoch secs nanos said (Refused e) = false
+    && same_list eqb (text (instant (moment f.year f.month f.day f.hour f.min f.sec) nanos) None) said
+prints_as epoch secs nanos said (Err e) = false
 
 abbrev pub passes : Reading → Bool
 passes (prints epoch secs nanos said) = ltb nanos 1000000000 && prints_as epoch secs nanos (bytes said) (parsed (10 ^ 12) (bytes said))
@@ -117,17 +116,17 @@ passes (converts epoch unix nanos leap said) = same (from_unix epoch unix nanos 
 passes (moves old new secs nanos said) = same (over_epoch old new secs nanos) said
 
 -- ---- a row that passes holds
-text_of : (epoch secs : ℤ) (nanos : ℕ) (said : List ℕ) (p : Parsed) → T (prints_as epoch secs nanos said p) → time_text secs nanos epoch Default ≡ said
+text_of : (epoch secs : ℤ) (nanos : ℕ) (said : List ℕ) (p : Parsed) → T (prints_as epoch secs nanos said p) → time_text secs nanos epoch None ≡ said
 unfolding time_text
-text_of epoch secs nanos said (Refused e) t = absurd t
-text_of epoch secs nanos said (Fields f) t =
+text_of epoch secs nanos said (Err e) t = absurd t
+text_of epoch secs nanos said (Ok f) t =
     let o = from_date_time epoch f.year f.month f.day f.hour f.min f.sec f.nano in
     let m = moment f.year f.month f.day f.hour f.min f.sec in
-    let b = and_yes (same o (gives (secs, nanos))) (same_list eqb (text (instant m nanos) Default) said) t in
+    let b = and_yes (same o (gives (secs, nanos))) (same_list eqb (text (instant m nanos) None) said) t in
     let a = (accepted epoch f.year f.month f.day f.hour f.min f.sec f.nano secs nanos).0 (same_outcome o (gives (secs, nanos)) b.0) in
-    ap (λ (x : Moment). text (instant x nanos) Default) a.0.walked ∙ same_list_lem eqb eqb→eq (text (instant m nanos) Default) said b.1
+    ap (λ (x : Moment). text (instant x nanos) None) a.0.walked ∙ same_list_lem eqb eqb→eq (text (instant m nanos) None) said b.1
 
-line_of : (epoch secs : ℤ) (nanos : ℕ) (said : List ℕ) → nanos < 1000000000 → time_text secs nanos epoch Default ≡ said → (line : List ℕ) (at : ℕ) → displayed secs nanos epoch Default line at ≡ (answer line at said, line_after line at said)
+line_of : (epoch secs : ℤ) (nanos : ℕ) (said : List ℕ) → nanos < 1000000000 → time_text secs nanos epoch None ≡ said → (line : List ℕ) (at : ℕ) → displayed secs nanos epoch None line at ≡ (answer line at said, line_after line at said)
 unfolding displayed
 line_of epoch secs nanos said h e line at = rw (lt-ltb nanos 1000000000 h, e)
 

@@ -3,6 +3,7 @@ use mathlib.Core.Path.{◌≡◌, refl, ap, ◌∙◌}
 use Prim.Native.Nat.{ℕ, ◌-◌, ◌^◌, ◌≤◌, ◌<◌}
 use native.Mathlib.Omega.{arith}
 use lib.IntN.{ℤ, nat_abs, ◌+ℤ◌}
+use Rattle.std.specs.Prelude.{None}
 use Rattle.errors.specs.Refusals.{gives}
 use Rattle.calendar.specs.declared.Date.{Date}
 use Rattle.moments.specs.declared.Moment.{Moment}
@@ -11,7 +12,6 @@ use Rattle.moments.specs.Moments.{moment_at, ValidTime}
 use Rattle.calendar.proofs.Months.{month_top}
 use Rattle.moments.proofs.Moments.{moment_valid}
 use Rattle.reader.specs.Stamp.{inside_range_error, stamped, read_text}
-use Rattle.printed_parts.specs.declared.Precision.TheVariants.{Default}
 use Rattle.printer.specs.Display.{instant, time_text}
 use Rattle.demands.specs.Values.{Timestamp}
 use Rattle.demands.proofs.DatesWalked.{accepted}
@@ -37,7 +37,7 @@ printable limit m nanos v t h k n =
 
 -- THE ROUND TRIP, for whatever limit the year is within
 pub back : (limit : ℕ) (secs : ℤ) (nanos : ℕ) (epoch : ℤ) → Timestamp secs nanos → nat_abs (moment_at (secs +ℤ epoch)).date.year ≤ limit → nat_abs (moment_at (secs +ℤ epoch)).date.year < 10 ^ 20
-    → read_text limit epoch (time_text secs nanos epoch Default) ≡ gives (secs, nanos)
+    → read_text limit epoch (time_text secs nanos epoch None) ≡ gives (secs, nanos)
 unfolding read_text time_text
 back limit secs nanos epoch t h k =
     let m = moment_at (secs +ℤ epoch) in

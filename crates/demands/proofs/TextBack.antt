@@ -6,14 +6,14 @@ use Prim.Native.Nat.{ℕ, suc, ◌^◌, ◌<◌, ◌≤◌}
 use native.Mathlib.Omega.{arith}
 use lib.IntN.{ℤ, pos, negsuc, nat_abs}
 use borrow.Author.Tests.{le-ltb}
+use Rattle.std.specs.Prelude.{None}
 use Rattle.decimals.specs.Numbers.{begins_with}
 use Rattle.fields.specs.Fields.{is_delimiter}
 use Rattle.stages.specs.Text.{from_month, without_sign, parsed}
 use Rattle.fields.specs.declared.Delimiter.TheVariants.{Hyphen, SpaceOrT, Colon}
-use Rattle.stages.specs.declared.DateTime.{DateTime}
-use Rattle.stages.specs.declared.Parsed.TheVariants.{Fields}
+use Rattle.dates.specs.declared.DateTime.{DateTime}
+use Rattle.std.specs.Prelude.{Ok}
 use Rattle.printer.specs.declared.Instant.{Instant}
-use Rattle.printed_parts.specs.declared.Precision.TheVariants.{Default}
 use Rattle.digits.specs.Digits.{digits, width}
 use Rattle.digits.proofs.Width.{width_least}
 use Rattle.printed_parts.specs.Text.{year_text, trim, pointed, fraction_text}
@@ -23,18 +23,18 @@ use Rattle.demands.proofs.FieldsBack.{field_back, seconds_back, year_back, no_si
 
 -- a stamp that can be printed in full
 pub record Printable (limit : ℕ) (t : Instant) : Type 0 where
-  pub year : nat_abs t.year ≤ limit
-  pub room : nat_abs t.year < 10 ^ 20
-  pub month : t.month < 100
-  pub day : t.day < 100
-  pub hour : t.hour < 100
-  pub minute : t.minute < 100
-  pub second : t.second < 100
+  pub year : nat_abs t.moment.date.year ≤ limit
+  pub room : nat_abs t.moment.date.year < 10 ^ 20
+  pub month : t.moment.date.month < 100
+  pub day : t.moment.date.day < 100
+  pub hour : t.moment.time.hour < 100
+  pub minute : t.moment.time.minute < 100
+  pub second : t.moment.time.second < 100
   pub nanos : t.nanos < 1000000000
 
 -- the fields of a stamp, as a reader says them
 abbrev pub fields_of : Instant → DateTime
-fields_of t = record { year = t.year; month = t.month; day = t.day; hour = t.hour; min = t.minute; sec = t.second; nano = t.nanos }
+fields_of t = record { year = t.moment.date.year; month = t.moment.date.month; day = t.moment.date.day; hour = t.moment.time.hour; min = t.moment.time.minute; sec = t.moment.time.second; nano = t.nanos }
 
 -- ---- the delimiters that are printed
 hyphen : is_delimiter Hyphen 45 ≡ true
@@ -52,20 +52,20 @@ colon = refl
 -- everything behind the hyphen of the year
 abbrev after_year : Instant → List ℕ
 after_year t =
-    digits 2 t.month ++ (45 ∷ (digits 2 t.day ++ (32 ∷ (digits 2 t.hour ++ (58 ∷ (digits 2 t.minute ++ (58 ∷ (digits 2 t.second ++ pointed (trim (digits 9 t.nanos))))))))))
+    digits 2 t.moment.date.month ++ (45 ∷ (digits 2 t.moment.date.day ++ (32 ∷ (digits 2 t.moment.time.hour ++ (58 ∷ (digits 2 t.moment.time.minute ++ (58 ∷ (digits 2 t.moment.time.second ++ pointed (trim (digits 9 t.nanos))))))))))
 
-fields_after : (t : Instant) → fields_text t ++ fraction_text Default t.nanos ≡ 45 ∷ after_year t
+fields_after : (t : Instant) → fields_text t ++ fraction_text None t.nanos ≡ 45 ∷ after_year t
 unfolding fields_text fraction_text digits
 fields_after t = refl
 
-month_back : (limit : ℕ) (year : ℤ) (t : Instant) → Printable limit t → year ≡ t.year → from_month year (after_year t) ≡ Fields (fields_of t)
+month_back : (limit : ℕ) (year : ℤ) (t : Instant) → Printable limit t → year ≡ t.moment.date.year → from_month year (after_year t) ≡ Ok (fields_of t)
 unfolding from_month
 month_back limit year t p e =
-    field_back Hyphen t.month p.month 45 _ _ hyphen
-    ∙ field_back SpaceOrT t.day p.day 32 _ _ space
-    ∙ field_back Colon t.hour p.hour 58 _ _ colon
-    ∙ field_back Colon t.minute p.minute 58 _ _ colon
-    ∙ rw (seconds_back t.second p.second (trim (digits 9 t.nanos)) t.nanos (trim_digits t.nanos) (nanoseconds_trim t.nanos p.nanos), e)
+    field_back Hyphen t.moment.date.month p.month 45 _ _ hyphen
+    ∙ field_back SpaceOrT t.moment.date.day p.day 32 _ _ space
+    ∙ field_back Colon t.moment.time.hour p.hour 58 _ _ colon
+    ∙ field_back Colon t.moment.time.minute p.minute 58 _ _ colon
+    ∙ rw (seconds_back t.moment.time.second p.second (trim (digits 9 t.nanos)) t.nanos (trim_digits t.nanos) (nanoseconds_trim t.nanos p.nanos), e)
 
 -- ---- the year, with its sign
 year_bare : (n : ℕ) → year_text (pos n) ≡ digits (width n) n
@@ -88,7 +88,7 @@ module _ (limit : ℕ) (r : List ℕ) where
       rw year_marked (year_back limit (width (suc n)) (suc n) w.from w.room h r true)
 
 -- THE TEXT READS BACK
-pub text_back : (limit : ℕ) (t : Instant) → Printable limit t → parsed limit (text t Default) ≡ Fields (fields_of t)
+pub text_back : (limit : ℕ) (t : Instant) → Printable limit t → parsed limit (text t None) ≡ Ok (fields_of t)
 unfolding text
 text_back limit t p =
-    rw (append_assoc, fields_after t) (sign_back limit (after_year t) t.year p.year p.room ∙ month_back limit t.year t p refl)
+    rw (append_assoc, fields_after t) (sign_back limit (after_year t) t.moment.date.year p.year p.room ∙ month_back limit t.moment.date.year t p refl)

@@ -7,15 +7,15 @@ use native.Mathlib.Omega.{arith}
 use lib.IntN.{ℤ, pos}
 use lib.ListN.{length, take}
 use lib.Seq.{drop-length}
+use Rattle.std.specs.Prelude.{Option}
 use Rattle.errors.specs.Refusals.{Refusal, gives, refuses, refusal}
-use Rattle.printed_parts.specs.declared.Precision.{Precision}
 use Rattle.printer.specs.Display.{time_text, displayed}
 use Rattle.demands.specs.GivenWhen.{PrintRefused}
 use Rattle.demands.specs.GivenWhen as When
 use Rattle.demands.proofs.Lent.{no_room, printed}
 use Rattle.demands.proofs.GivenWhen.{print_refused_exactly}
 
-module _ (secs : ℤ) (nanos : ℕ) (epoch : ℤ) (precision : Precision) (line : List ℕ) (at : ℕ) where
+module _ (secs : ℤ) (nanos : ℕ) (epoch : ℤ) (precision : Option ℕ) (line : List ℕ) (at : ℕ) where
   abbrev text : List ℕ
   text = time_text secs nanos epoch precision
 

@@ -1,9 +1,8 @@
 -- Document 01, "When the box says no": what each refusal of a date, and of printing, is given for, and that those before it are not.
-use Rattle.std.specs.Prelude.{List, [], ◌∷◌, ◌⊎◌, ℕ, ◌+◌, ◌<◌, ◌≤◌, ℤ, pos, length}
+use Rattle.std.specs.Prelude.{List, [], ◌∷◌, ◌⊎◌, ℕ, ◌+◌, ◌<◌, ◌≤◌, ℤ, pos, length, Option}
 use Rattle.errors.specs.Refusals.{Refusal, refusal}
 use Rattle.calendar.specs.Walk.{Valid, date, month_length}
 use Rattle.moments.specs.Moments.{ValidTime}
-use Rattle.printed_parts.specs.declared.Precision.{Precision}
 use Rattle.printer.specs.Display.{time_text}
 use Rattle.demands.specs.Values.{moment, Reaches}
 
@@ -20,7 +19,7 @@ pub data DateRefused (epoch year : ℤ) (month day hour min sec nano : ℕ) : Re
       → ((secs : ℤ) → Reaches epoch secs (moment year month day hour min sec) → ⊥) → DateRefused epoch year month day hour min sec nano (refusal 6 [])
 
 -- the refusals of printing, in order
-pub data PrintRefused (secs : ℤ) (nanos : ℕ) (epoch : ℤ) (precision : Precision) (line : List ℕ) (at : ℕ) : Refusal → Type 0 where
+pub data PrintRefused (secs : ℤ) (nanos : ℕ) (epoch : ℤ) (precision : Option ℕ) (line : List ℕ) (at : ℕ) : Refusal → Type 0 where
   bad_nanos : 1000000000 ≤ nanos → PrintRefused secs nanos epoch precision line at (refusal 11 [])
   start_outside : nanos < 1000000000 → length line < at → PrintRefused secs nanos epoch precision line at (refusal 12 [])
   -- with the text's length

@@ -1,11 +1,10 @@
 -- Document 01, "Readings we keep by the bench", as document 02 amends it: the rows marked P, as one table with a case for each kind of call.
-use Rattle.std.specs.Prelude.{◌≡◌, List, [], ◌∷◌, ℕ, ℤ, pos, neg_ℤ}
+use Rattle.std.specs.Prelude.{◌≡◌, List, [], ◌∷◌, ℕ, ℤ, pos, neg_ℤ, None}
 use Prim.Native.String.{String}
 use Rattle.errors.specs.Refusals.{Outcome, gives, refuses, refusal}
 use Rattle.counts.specs.Counts.{from_date_time, from_unix, over_epoch, added}
 use Rattle.counts.specs.Constants.{earliest, latest}
 use Rattle.reader.specs.Stamp.{read_text, year_limit}
-use Rattle.printed_parts.specs.declared.Precision.TheVariants.{Default}
 use Rattle.printer.specs.Lent.{answer, line_after}
 use Rattle.printer.specs.Display.{displayed}
 use Rattle.texts.specs.Texts.{bytes}
@@ -27,7 +26,7 @@ pub data Reading : Type 0 where
 -- the entry says what the row says; printing does, for every line and place in it
 abbrev pub Holds : Reading → Type 0
 Holds (prints epoch secs nanos text) =
-    (line : List ℕ) (at : ℕ) → displayed secs nanos epoch Default line at ≡ (answer line at (bytes text), line_after line at (bytes text))
+    (line : List ℕ) (at : ℕ) → displayed secs nanos epoch None line at ≡ (answer line at (bytes text), line_after line at (bytes text))
 Holds (counts epoch year month day hour min sec nano said) = from_date_time epoch year month day hour min sec nano ≡ said
 Holds (reads epoch text said) = read_text year_limit epoch (bytes text) ≡ said
 Holds (adds secs nanos dsecs dnanos said) = added secs nanos dsecs dnanos ≡ said

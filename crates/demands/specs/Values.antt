@@ -8,8 +8,8 @@ use Rattle.moments.specs.Moments.{moment_at, EarlierMoment}
 use Rattle.decimals.specs.Numbers.{is_digit}
 use Rattle.fields.specs.Fields.{is_delimiter}
 use Rattle.fields.specs.declared.Delimiter.{Delimiter}
-use Rattle.durations.specs.declared.Ordering.{Ordering}
-use Rattle.durations.specs.declared.Ordering.TheVariants.{Less, Equal, Greater}
+use Rattle.std.specs.declared.cmp.Ordering.{Ordering}
+use Rattle.std.specs.declared.cmp.Ordering.TheVariants.{Less, Equal, Greater}
 use Rattle.counts.specs.Counts.{exact}
 
 -- a signed 64-bit number

@@ -1,4 +1,4 @@
 pub mod Answered
-mod Coded
 mod Table
 mod Prints
+mod Entries

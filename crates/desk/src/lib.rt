@@ -3,6 +3,6 @@
 
 mod lent; // the verbs that print, and that write into lent bytes
 mod request; // a request to its answer
-mod verbs; // the verbs whose answer is said in one form
+mod verbs; // the verbs, their kinds, and the answers that are said in one form
 
 pub use request::answer;

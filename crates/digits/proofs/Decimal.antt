@@ -1,6 +1,6 @@
 -- Rows of digits: how long they are, and where they can be cut.
 use mathlib.Core.Path.{◌≡◌, refl, sym, ap, ◌∙◌}
-use mathlib.Core.List.{List, ◌++◌, append_assoc, append-nil}
+use mathlib.Core.List.{List, [], ◌∷◌, ◌++◌, append_assoc, append-nil}
 use Prim.Native.Nat.{ℕ, zero, suc, ◌+◌, ◌-◌, ◌*◌, ◌/◌, ◌%◌, ◌^◌, ◌<◌, ◌≤◌}
 use native.Mathlib.Nat.{pow-suc, pow-succ', pow-zero, div-one, div-div-eq-div-mul, add-suc, add-zero, mul_assoc, div-add-mod'}
 use native.Mathlib.Omega.{arith}
@@ -60,14 +60,12 @@ module _ (n : ℕ) (h : n < 100) where
   pair : 12336 + n * 256 - n / 10 * 2559 ≡ 48 + n / 10 % 10 + (48 + n % 10) * 256
   pair = omega arith
 
-  low : (a b : ℕ) → a < 256 → (a + b * 256) % 256 ≡ a
-  low a b k = omega arith
+  first : (12336 + n * 256 - n / 10 * 2559) % 256 ≡ 48 + n / 10 % 10
+  first = rw pair (omega arith)
 
-  high : (a b : ℕ) → a < 256 → (a + b * 256) / 256 ≡ b
-  high a b k = omega arith
+  second : (12336 + n * 256 - n / 10 * 2559) / 256 % 256 ≡ 48 + n % 10
+  second = rw pair (omega arith)
 
-  pub pair_first : (12336 + n * 256 - n / 10 * 2559) % 256 ≡ 48 + n / 10 % 10
-  pair_first = rw pair (low _ (48 + n % 10) (omega arith))
-
-  pub pair_second : (12336 + n * 256 - n / 10 * 2559) / 256 ≡ 48 + n % 10
-  pair_second = rw pair (high (48 + n / 10 % 10) _ (omega arith))
+  pub pair_bytes : (12336 + n * 256 - n / 10 * 2559) % 256 ∷ (12336 + n * 256 - n / 10 * 2559) / 256 % 256 ∷ [] ≡ digits 2 n
+  unfolding digits
+  pair_bytes = rw (first, second)

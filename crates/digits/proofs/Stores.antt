@@ -1,5 +1,5 @@
 -- Runs of stores: one behind another, and into a part of a line that was lent.
-use mathlib.Core.Path.{◌≡◌, refl, ap, ◌∙◌}
+use mathlib.Core.Path.{◌≡◌, refl, sym, ap, ◌∙◌}
 use mathlib.Core.List.{List, [], ◌∷◌, ◌++◌, append_assoc, append-nil}
 use Prim.Native.Nat.{ℕ, suc, ◌+◌, ◌-◌, ◌≤◌}
 use native.Mathlib.Nat.{zero-add, add-zero, add-suc, suc-add}
@@ -23,6 +23,12 @@ pub sets_sets : (l : List ℕ) (i : ℕ) (a : List ℕ) (j : ℕ) (b : List ℕ)
 sets_sets l i a j [] h = refl
 sets_sets l i a j (x ∷ b) h =
     sets_sets (set l j x) i a (suc j) b (omega arith) ∙ ap (λ k. sets k (suc j) b) (sets_set l i a j x h)
+
+-- a part of a line, written anew
+pub part_anew : (s : List ℕ) (at k : ℕ) (ys : List ℕ) → at + k ≤ length s → length ys ≡ k → put_mid at k s ys ≡ sets s at ys
+part_anew s at k ys h e =
+    let g : at + length ys ≤ length s = omega (arith, e) in
+    sym (sets-eq ys s at g ∙ rw (e, drop-drop, append_assoc))
 
 -- the part of a line from `at` on, with a text stored at its front, put back into the line
 pub put_back : (s : List ℕ) (at : ℕ) (text ys : List ℕ) → at ≤ length s → length text ≤ length s - at

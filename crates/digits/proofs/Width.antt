@@ -4,21 +4,10 @@ use mathlib.Core.Bool.{Bool, true, false, cond}
 use Prim.Native.Nat.{ℕ, zero, suc, ◌+◌, ◌-◌, ◌^◌, ◌<◌, ◌≤◌}
 use native.Mathlib.Decide.{dec_lt}
 use native.Mathlib.Nat.{pow-le-pow_right, add-zero, add-suc, suc-add}
-use native.Mathlib.Numerals.{sub-one, add-one}
 use native.Mathlib.Omega.{arith}
 use lib.Dec.{ltb, lit<}
-use borrow.Author.Tests.{lt-ltb, le-ltb, ltb-true, ltb-false}
+use borrow.Author.Tests.{ltb-true, ltb-false}
 use Rattle.digits.specs.Digits.{width_from, width}
-
-pub here : (k w n : ℕ) → n < 10 ^ w → width_from k w n ≡ w
-unfolding width_from
-here zero w n h = refl
-here (suc k) w n h = rw (lt-ltb n (10 ^ w) h)
-
-pub more : (k w n : ℕ) → 0 < k → 10 ^ w ≤ n → width_from k w n ≡ width_from (k - 1) (w + 1) n
-unfolding width_from
-more zero w n h g = absurd (omega arith)
-more (suc k) w n h g = rw (le-ltb n (10 ^ w) g, sub-one, add-one)
 
 -- powers of ten keep the order
 pub power_lt : (a b : ℕ) → 10 ^ a < 10 ^ b → a < b
@@ -52,12 +41,18 @@ pub width_least : (n : ℕ) → n < 10 ^ 20 → Least 4 n (width n)
 unfolding width
 width_least n h = from_least 16 4 n h
 
-pub width_le : (m n : ℕ) → 4 ≤ m → n < 10 ^ m → n < 10 ^ 20 → width n ≤ m
-width_le m n h g k = go (dec_lt m (width n))
+-- no width that has room is below the least
+least_le : {w n r : ℕ} (m : ℕ) → w ≤ m → n < 10 ^ m → Least w n r → r ≤ m
+least_le {w} {n} {r} m g h l = go (dec_lt m r)
   where
-    w : Least 4 n (width n)
-    w = width_least n k
+    go : Dec (m < r) → r ≤ m
+    go (no k) = omega arith
+    go (yes k) = let p = l.least (omega (arith, l.from)) in absurd (omega (arith, power_lt (r - 1) m (omega arith)))
 
-    go : Dec (m < width n) → width n ≤ m
-    go (no l) = omega arith
-    go (yes l) = let p = w.least (omega arith) in absurd (omega (arith, power_lt (width n - 1) m (omega arith)))
+pub width_le : (m n : ℕ) → 4 ≤ m → n < 10 ^ m → n < 10 ^ 20 → width n ≤ m
+width_le m n g h k = least_le m g h (width_least n k)
+
+pub width_is : (r n : ℕ) → n < 10 ^ 20 → Least 4 n r → width n ≡ r
+width_is r n k l =
+    let w = width_least n k in
+    omega (arith, least_le r l.from l.room w, least_le (width n) w.from w.room l)

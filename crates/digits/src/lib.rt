@@ -1,61 +1,54 @@
 // Decimal digits, written as bytes.
 #![tactic(auto)]
 
-ghost use Rattle.std.specs.Prelude.{◌≡◌, ◌+◌, ◌/◌, ◌%◌, ◌^◌, ◌≤◌, ◌<◌, length};
+ghost use Rattle.std.specs.Prelude.{◌≡◌, ◌+◌, ◌*◌, ◌/◌, ◌%◌, ◌^◌, ◌≤◌, ◌<◌, length};
 ghost use Rattle.std.proofs.lemmas.List.Edits.{sets};
 ghost use Rattle.digits.specs.Digits.{digits, field};
 
+// The least number of ten digits.
+const BILLION: u32 = 1_000_000_000;
+
+// A number without its last digits, and those as a number.
 #[derive(Clone, Copy)]
 pub struct Split {
     pub rest: u32,
-    pub digit: u8,
+    pub last: u32,
 }
 
-// Where a digit comes off a number: the product and the shift are n / 10, as in the Rust. 429496730 is 2^32 / 10, rounded up.
+// The product and the shift are n / DIVISOR, as in the Rust, for a FACTOR that is 2^32 / DIVISOR, rounded up by so little that it is not seen below 2^30.
+fn split_last<const DIVISOR: u32, const FACTOR: u64>(n: u32) -> Split
+    requires small { n < 2 ^ 30 }
+    requires rounded_up { (2 ^ 32 ≤ FACTOR * DIVISOR) × (FACTOR * DIVISOR ≤ 2 ^ 32 + 4) }
+    ensures { (result.rest ≡ n / DIVISOR) × (result.last ≡ n % DIVISOR) }
+{
+    let rest = (n as u64 * FACTOR >> 32) as u32;
+    Split {
+        rest,
+        last: n - rest * DIVISOR,
+    }
+}
+
 pub fn split_last_digit(n: u32) -> Split
     requires { n < 2 ^ 30 }
-    ensures { (result.rest ≡ n / 10) × (result.digit ≡ n % 10) }
+    ensures { (result.rest ≡ n / 10) × (result.last ≡ n % 10) }
 {
-    let rest = (n as u64 * 429496730 >> 32) as u32;
-    let digit = (n - rest * 10) as u8;
-    Split { rest, digit }
+    split_last::<10, 429_496_730>(n)
 }
 
-#[derive(Clone, Copy)]
-pub(crate) struct SplitPair {
-    pub rest: u32,
-    pub pair: u32,
-}
-
-// Where two digits come off, in the same way.
-fn split_last_pair(n: u32) -> SplitPair
-    requires { n < 2 ^ 30 }
-    ensures { (result.rest ≡ n / 100) × (result.pair ≡ n % 100) }
-{
-    let rest = (n as u64 * 42949673 >> 32) as u32;
-    let pair = n - rest * 100;
-    SplitPair { rest, pair }
-}
-
-#[derive(Clone, Copy)]
-pub(crate) struct SplitNine {
-    pub rest: u32,
-    pub nine: u32,
-}
-
-// Where nine come off a larger number: 2305843009 is 2^61 / 10^9, rounded down, so that the product may be one too small.
-fn split_last_nine(n: u64) -> SplitNine
+// Nine digits come off a larger number: 2_305_843_009 is 2^61 / 10^9, rounded down, so that the product may be one too small.
+fn split_last_nine(n: u64) -> Split
     requires { n < 10 ^ 18 }
-    ensures { (result.rest ≡ n / 10 ^ 9) × (result.nine ≡ n % 10 ^ 9) }
+    ensures { (result.rest ≡ n / 10 ^ 9) × (result.last ≡ n % 10 ^ 9) }
 {
-    let rest = ((n >> 29) * 2305843009 >> 32) as u32;
-    let nine = (n - rest as u64 * 1000000000) as u32;
-    if nine < 1000000000 {
-        return SplitNine { rest, nine };
-    }
-    SplitNine {
-        rest: rest + 1,
-        nine: nine - 1000000000,
+    let rest = ((n >> 29) * 2_305_843_009 >> 32) as u32;
+    let last = (n - rest as u64 * BILLION as u64) as u32;
+    if last < BILLION {
+        Split { rest, last }
+    } else {
+        Split {
+            rest: rest + 1,
+            last: last - BILLION,
+        }
     }
 }
 
@@ -65,26 +58,24 @@ fn put_pair(s: &mut [u8], at: usize, n: u32)
     ensures { s.new ≡ sets s.old at (digits 2 n) }
 {
     let tens = split_last_digit(n).rest;
-    let pair = 12336 + n * 256 - tens * 2559;
-    s[at] = (pair % 256) as u8;
-    s[at + 1] = (pair / 256) as u8;
+    let pair = 0x3030 + n * 256 - tens * 2559;
+    s[at..at + 2].copy_from_slice(&(pair as u16).to_le_bytes());
 }
 
 // The last `width` digits of n, from at on; the last two are written first.
-pub(crate) fn put_digits(s: &mut [u8], at: usize, width: usize, n: u32)
+fn put_digits(s: &mut [u8], at: usize, width: usize, n: u32)
     requires { (at + width ≤ length s.old) × (n < 2 ^ 30) }
     ensures { s.new ≡ sets s.old at (digits width n) }
 {
-    let mut left = width;
+    let odd = width % 2;
     let mut m = n;
-    while 1 < left {
-        left -= 2;
-        let split = split_last_pair(m);
-        put_pair(s, at + left, split.pair);
+    for pair in (0..width / 2).rev() {
+        let split = split_last::<100, 42_949_673>(m);
+        put_pair(s, at + odd + 2 * pair, split.last);
         m = split.rest;
     }
-    if 0 < left {
-        s[at] = 48 + split_last_digit(m).digit;
+    if odd == 1 {
+        s[at] = b'0' + split_last_digit(m).last as u8;
     }
 }
 
@@ -93,27 +84,23 @@ pub fn put_number(s: &mut [u8], at: usize, width: usize, n: u64)
     requires { (at + width ≤ length s.old) × (n < 10 ^ 18) }
     ensures { s.new ≡ sets s.old at (digits width n) }
 {
-    if n < 1000000000 {
+    if n < BILLION as u64 {
         // The compiler unrolls a width that it knows: those of most fractions and years.
-        if width == 9 {
-            put_digits(s, at, 9, n as u32);
-            return;
+        match width {
+            9 => put_digits(s, at, 9, n as u32),
+            4 => put_digits(s, at, 4, n as u32),
+            _ => put_digits(s, at, width, n as u32),
         }
-        if width == 4 {
-            put_digits(s, at, 4, n as u32);
-            return;
-        }
-        put_digits(s, at, width, n as u32);
         return;
     }
     let split = split_last_nine(n);
     if width <= 9 {
-        put_digits(s, at, width, split.nine);
-        return;
+        put_digits(s, at, width, split.last);
+    } else {
+        let lead = width - 9;
+        put_digits(s, at, lead, split.rest);
+        put_digits(s, at + lead, 9, split.last);
     }
-    let lead = width - 9;
-    put_digits(s, at, lead, split.rest);
-    put_digits(s, at + lead, 9, split.nine);
 }
 
 // A separator and two digits, from at on.
@@ -125,7 +112,7 @@ pub fn put_field(s: &mut [u8], at: usize, separator: u8, n: u8)
     // Below 100, as every field of a moment is, the number is its own pair.
     if n < 100 {
         put_pair(s, at + 1, n as u32);
-        return;
+    } else {
+        put_digits(s, at + 1, 2, n as u32);
     }
-    put_digits(s, at + 1, 2, n as u32);
 }

@@ -3,8 +3,8 @@ use Rattle.std.specs.Prelude.{ℕ, ◌/◌, ◌%◌, cond, [], ℤ, pos, negsuc,
 use Rattle.integers.specs.Integers.{floor_div, floor_mod}
 use Rattle.errors.specs.Refusals.{refusal, Outcome, gives, refuses}
 use Rattle.seconds.specs.Counts.{representable, good_nanos}
-use Rattle.durations.specs.declared.Ordering.{Ordering}
-use Rattle.durations.specs.declared.Ordering.TheVariants.{Less, Equal, Greater}
+use Rattle.std.specs.declared.cmp.Ordering.{Ordering}
+use Rattle.std.specs.declared.cmp.Ordering.TheVariants.{Less, Equal, Greater}
 
 -- the exact count of nanoseconds of a timestamp or a duration
 unfoldable pub exact : ℤ → ℕ → ℤ

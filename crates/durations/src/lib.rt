@@ -7,9 +7,8 @@ ghost use Rattle.durations.specs.Said.{said_duration, said_ordering};
 ghost use Rattle.durations.specs.Durations.{added, taken, since, compared};
 
 use errors::CountError;
-use integers::{to_bits, wrapping_add_unsigned, wrapping_sub_unsigned};
-use seconds::Counted;
-use std::num::wrapping_sub_u64;
+use seconds::{NANOS_PER_SEC, check_nanos};
+use std::cmp::Ordering;
 
 #[derive(Clone, Copy)]
 pub struct Duration {
@@ -17,119 +16,80 @@ pub struct Duration {
     pub nanos: u32,
 }
 
-#[derive(Clone, Copy)]
-pub enum DurationAnswer {
-    Lasts(Duration),
-    Refused(CountError),
-}
-
-#[derive(Clone, Copy)]
-pub enum Ordering {
-    Less,
-    Equal,
-    Greater,
-}
-
-#[derive(Clone, Copy)]
-pub enum OrderingAnswer {
-    Is(Ordering),
-    Refused(CountError),
-}
-
 // The timestamp that lies a duration later. The seconds wrap, and a result before the old seconds shows an overflow. The carry is no branch: which way it goes cannot be foretold.
-pub fn add(secs: i64, nanos: u32, dsecs: u64, dnanos: u32) -> Counted
+pub fn add(secs: i64, nanos: u32, dsecs: u64, dnanos: u32) -> Result<(i64, u32), CountError>
     ensures { said_counted result ≡ added secs nanos dsecs dnanos }
 {
-    if 999999999 < nanos {
-        return Counted::Refused(CountError::BadNanos);
-    }
-    if 999999999 < dnanos {
-        return Counted::Refused(CountError::BadNanos);
-    }
-    let sum = wrapping_add_unsigned(secs, dsecs);
+    check_nanos(nanos)?;
+    check_nanos(dnanos)?;
+    let sum = secs.wrapping_add_unsigned(dsecs);
     if sum < secs {
-        return Counted::Refused(CountError::NotRepresentable);
+        return Err(CountError::NotRepresentable);
     }
     let total = nanos + dnanos;
-    let carry = (total / 1000000000) as i64;
-    if 9223372036854775807 - carry < sum {
-        return Counted::Refused(CountError::NotRepresentable);
-    }
-    Counted::At(sum + carry, total % 1000000000)
+    let carry = (total / NANOS_PER_SEC) as i64;
+    let later = sum.checked_add(carry).ok_or(CountError::NotRepresentable)?;
+    Ok((later, total % NANOS_PER_SEC))
 }
 
 // The timestamp that lies a duration earlier.
-pub fn sub(secs: i64, nanos: u32, dsecs: u64, dnanos: u32) -> Counted
+pub fn sub(secs: i64, nanos: u32, dsecs: u64, dnanos: u32) -> Result<(i64, u32), CountError>
     ensures { said_counted result ≡ taken secs nanos dsecs dnanos }
 {
-    if 999999999 < nanos {
-        return Counted::Refused(CountError::BadNanos);
-    }
-    if 999999999 < dnanos {
-        return Counted::Refused(CountError::BadNanos);
-    }
-    let difference = wrapping_sub_unsigned(secs, dsecs);
+    check_nanos(nanos)?;
+    check_nanos(dnanos)?;
+    let difference = secs.wrapping_sub_unsigned(dsecs);
     if secs < difference {
-        return Counted::Refused(CountError::NotRepresentable);
+        return Err(CountError::NotRepresentable);
     }
-    let rest = nanos + 1000000000 - dnanos;
-    let borrow = (1 - rest / 1000000000) as i64;
-    if difference < -9223372036854775808 + borrow {
-        return Counted::Refused(CountError::NotRepresentable);
-    }
-    Counted::At(difference - borrow, rest % 1000000000)
+    let rest = nanos + NANOS_PER_SEC - dnanos;
+    let borrow = (1 - rest / NANOS_PER_SEC) as i64;
+    let earlier = difference
+        .checked_sub(borrow)
+        .ok_or(CountError::NotRepresentable)?;
+    Ok((earlier, rest % NANOS_PER_SEC))
 }
 
-// The duration from the second timestamp to the first. The difference of their bits is exact once the first is not earlier.
-pub fn since(secs: i64, nanos: u32, earlier_secs: i64, earlier_nanos: u32) -> DurationAnswer
+// The duration from the second timestamp to the first.
+pub fn since(
+    secs: i64,
+    nanos: u32,
+    earlier_secs: i64,
+    earlier_nanos: u32,
+) -> Result<Duration, CountError>
     ensures { said_duration result ≡ since secs nanos earlier_secs earlier_nanos }
 {
-    if 999999999 < nanos {
-        return DurationAnswer::Refused(CountError::BadNanos);
-    }
-    if 999999999 < earlier_nanos {
-        return DurationAnswer::Refused(CountError::BadNanos);
-    }
+    check_nanos(nanos)?;
+    check_nanos(earlier_nanos)?;
     if secs < earlier_secs {
-        return DurationAnswer::Refused(CountError::NotRepresentable);
+        return Err(CountError::NotRepresentable);
     }
-    let difference = wrapping_sub_u64(to_bits(secs), to_bits(earlier_secs));
+    let difference = secs.abs_diff(earlier_secs);
     if earlier_nanos <= nanos {
-        return DurationAnswer::Lasts(Duration {
+        return Ok(Duration {
             secs: difference,
             nanos: nanos - earlier_nanos,
         });
     }
-    if 0 < difference {
-        return DurationAnswer::Lasts(Duration {
-            secs: difference - 1,
-            nanos: nanos + 1000000000 - earlier_nanos,
-        });
-    }
-    DurationAnswer::Refused(CountError::NotRepresentable)
+    let less_one = difference
+        .checked_sub(1)
+        .ok_or(CountError::NotRepresentable)?;
+    Ok(Duration {
+        secs: less_one,
+        nanos: nanos + NANOS_PER_SEC - earlier_nanos,
+    })
 }
 
 // The first timestamp against the second: seconds first, then nanoseconds.
-pub fn compare(secs: i64, nanos: u32, other_secs: i64, other_nanos: u32) -> OrderingAnswer
+pub fn compare(
+    secs: i64,
+    nanos: u32,
+    other_secs: i64,
+    other_nanos: u32,
+) -> Result<Ordering, CountError>
     ensures { said_ordering result ≡ compared secs nanos other_secs other_nanos }
 {
-    if 999999999 < nanos {
-        return OrderingAnswer::Refused(CountError::BadNanos);
-    }
-    if 999999999 < other_nanos {
-        return OrderingAnswer::Refused(CountError::BadNanos);
-    }
-    if secs < other_secs {
-        return OrderingAnswer::Is(Ordering::Less);
-    }
-    if other_secs < secs {
-        return OrderingAnswer::Is(Ordering::Greater);
-    }
-    if nanos < other_nanos {
-        return OrderingAnswer::Is(Ordering::Less);
-    }
-    if other_nanos < nanos {
-        return OrderingAnswer::Is(Ordering::Greater);
-    }
-    OrderingAnswer::Is(Ordering::Equal)
+    check_nanos(nanos)?;
+    check_nanos(other_nanos)?;
+    Ok(secs.cmp(&other_secs).then(nanos.cmp(&other_nanos)))
 }

@@ -1,5 +1,5 @@
 -- Each refusal by its number and its values in document 01's table, "When the box says no", and want of room by document 02, ask 11.
-use Rattle.std.specs.Prelude.{Bool, cond, List, [], ◌∷◌, ℕ, ℤ, pos}
+use Rattle.std.specs.Prelude.{Bool, cond, Result, Ok, Err, List, [], ◌∷◌, ℕ, ℤ, pos}
 use Rattle.errors.specs.declared.DateTimeError.{DateTimeError}
 use Rattle.errors.specs.declared.DateTimeError.TheVariants.{InvalidMonth, InvalidDayOfMonth, InvalidHour, InvalidMinute, InvalidSecond, InvalidNanosecond, OutOfRange}
 use Rattle.errors.specs.declared.ParseDateTimeError.{ParseDateTimeError}
@@ -21,6 +21,11 @@ pub data Outcome (A : Type 0) : Type 0 where
   gives : A → Outcome A
   refuses : Refusal → Outcome A
   refuses_in_range_error : Refusal → Outcome A
+
+-- what a Result says: its value by a form, or its error's refusal
+abbrev pub says : {A B E : Type 0} → (A → B) → (E → Refusal) → Result A E → Outcome B
+says form refusal_of (Ok x) = gives (form x)
+says form refusal_of (Err e) = refuses (refusal_of e)
 
 -- the test holds, or the refusal is given
 abbrev pub check : {A : Type 0} → Bool → Refusal → Outcome A → Outcome A

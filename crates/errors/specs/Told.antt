@@ -1,17 +1,31 @@
 -- A refusal as the code hands it on.
-use Rattle.std.specs.Prelude.{Bool, true, false, cond, [], ◌∷◌, pos}
-use Rattle.errors.specs.Refusals.{Refusal, refusal, Outcome, refuses, refuses_in_range_error}
+use Rattle.std.specs.Prelude.{Bool, true, false, Option, Some, None, List, [], ◌∷◌, ℕ, ℤ, pos}
+use Rattle.errors.specs.Refusals.{Refusal, refusal, Outcome, gives, refuses, refuses_in_range_error, of_date_time, of_parse, of_count, of_print}
 use Rattle.errors.specs.declared.refusal.Refusal as Code
+use Rattle.errors.specs.declared.refusal.Refusal.TheVariants.{Date, Text, Count, Print}
+
+-- what it says: the outcome of a refused entry
+abbrev pub told : {A : Type 0} → Code.Refusal → Outcome A
+told (Date e) = refuses (of_date_time e)
+told (Text e) = of_parse e
+told (Count e) = refuses (of_count e)
+told (Print e) = refuses (of_print e)
 
 -- a refusal that arrived inside a RangeError, or not
 abbrev pub marked : {A : Type 0} → Bool → Refusal → Outcome A
 marked true r = refuses_in_range_error r
 marked false r = refuses r
 
--- its number and values
-abbrev pub inner : Code.Refusal → Refusal
-inner r = refusal r.number (cond r.valued (pos r.value ∷ []) [])
+-- the number and values of an outcome that is refused
+abbrev refused : Outcome ℕ → Refusal
+refused (gives x) = refusal 0 []
+refused (refuses r) = r
+refused (refuses_in_range_error r) = r
 
--- what it says: the outcome of a refused entry
-abbrev pub told : {A : Type 0} → Code.Refusal → Outcome A
-told r = marked r.in_range_error (inner r)
+abbrev pub inner : Code.Refusal → Refusal
+inner r = refused (told r)
+
+-- a value, if there is one
+abbrev pub values : Option ℕ → List ℤ
+values None = []
+values (Some v) = pos v ∷ []

@@ -3,6 +3,9 @@
 
 mod refusal;
 
+ghost use Rattle.std.specs.Prelude.{◌≡◌};
+ghost use Rattle.errors.specs.declared.ParseDateTimeError.TheVariants.{RangeError};
+
 pub use refusal::Refusal;
 
 // Refusals 0 to 6: a date or a time of day that does not exist, or that no count reaches.
@@ -24,6 +27,14 @@ pub enum ParseDateTimeError {
     InvalidFieldWidth,
     InvalidFieldValue,
     RangeError(DateTimeError),
+}
+
+impl From<DateTimeError> for ParseDateTimeError {
+    ghost from_gives = { λ date e. e ≡ RangeError date };
+
+    fn from(e: DateTimeError) -> ParseDateTimeError {
+        ParseDateTimeError::RangeError(e)
+    }
 }
 
 // Refusals 10 and 11: a result that is no timestamp or duration, or nanoseconds that are none.

@@ -1,91 +1,112 @@
 // A refusal as every face hands it on.
-ghost use Rattle.std.specs.Prelude.{false, ◌≡◌, [], ◌∷◌, ℕ, pos};
-ghost use Rattle.errors.specs.Refusals.{refusal, refuses, of_date_time, of_parse, of_count, of_print};
-ghost use Rattle.errors.specs.Told.{marked, told};
+ghost use Rattle.std.specs.Prelude.{◌≡◌, ℕ};
+ghost use Rattle.errors.specs.Refusals.{refuses, of_date_time, of_parse, of_count, of_print};
+ghost use Rattle.errors.specs.Told.{inner, marked, told, values};
 
 use crate::{CountError, DateTimeError, ParseDateTimeError, PrintError};
 
-// Its number, whether it arrived inside a RangeError, and its value if it has one.
 #[derive(Clone, Copy)]
-pub struct Refusal {
-    pub number: u8,
-    pub in_range_error: bool,
-    pub valued: bool,
-    pub value: u32,
+pub enum Refusal {
+    Date(DateTimeError),
+    Text(ParseDateTimeError),
+    Count(CountError),
+    Print(PrintError),
 }
 
 impl Refusal {
-    pub fn bare(number: u8, in_range_error: bool) -> Refusal
-        ensures { told {A = ℕ} result ≡ marked in_range_error (refusal number []) }
+    // Its number in the table.
+    pub fn number(self) -> u8
+        ensures { result ≡ (inner self).number }
     {
-        Refusal {
-            number,
-            in_range_error,
-            valued: false,
-            value: 0,
+        match self {
+            Refusal::Date(e) | Refusal::Text(ParseDateTimeError::RangeError(e)) => e.number(),
+            Refusal::Text(ParseDateTimeError::MissingField) => 7,
+            Refusal::Text(ParseDateTimeError::InvalidFieldWidth) => 8,
+            Refusal::Text(ParseDateTimeError::InvalidFieldValue) => 9,
+            Refusal::Count(CountError::NotRepresentable) => 10,
+            Refusal::Count(CountError::BadNanos) | Refusal::Print(PrintError::BadNanos) => 11,
+            Refusal::Print(PrintError::StartOutside) => 12,
+            Refusal::Print(PrintError::NoRoom(_)) => 13,
         }
     }
 
-    pub fn valued(number: u8, in_range_error: bool, value: u32) -> Refusal
-        ensures { told {A = ℕ} result ≡ marked in_range_error (refusal number (pos value ∷ [])) }
+    // Its value, if it has one.
+    pub fn value(self) -> Option<u32>
+        ensures { values result ≡ (inner self).values }
     {
-        Refusal {
-            number,
-            in_range_error,
-            valued: true,
-            value,
+        match self {
+            Refusal::Date(e) | Refusal::Text(ParseDateTimeError::RangeError(e)) => e.value(),
+            Refusal::Print(PrintError::NoRoom(wanted)) => Some(wanted),
+            _ => None,
         }
+    }
+
+    // Whether it is a date's that a text says.
+    pub fn in_range_error(self) -> bool
+        ensures { told {A = ℕ} self ≡ marked result (inner self) }
+    {
+        matches!(self, Refusal::Text(ParseDateTimeError::RangeError(_)))
     }
 }
 
 impl DateTimeError {
-    pub fn refusal(self, in_range_error: bool) -> Refusal
-        ensures { told {A = ℕ} result ≡ marked in_range_error (of_date_time self) }
+    fn number(self) -> u8
+        ensures { result ≡ (of_date_time self).number }
     {
         match self {
-            DateTimeError::InvalidMonth(v) => Refusal::valued(0, in_range_error, v as u32),
-            DateTimeError::InvalidDayOfMonth(v) => Refusal::valued(1, in_range_error, v as u32),
-            DateTimeError::InvalidHour(v) => Refusal::valued(2, in_range_error, v as u32),
-            DateTimeError::InvalidMinute(v) => Refusal::valued(3, in_range_error, v as u32),
-            DateTimeError::InvalidSecond(v) => Refusal::valued(4, in_range_error, v as u32),
-            DateTimeError::InvalidNanosecond(v) => Refusal::valued(5, in_range_error, v),
-            DateTimeError::OutOfRange => Refusal::bare(6, in_range_error),
+            DateTimeError::InvalidMonth(_) => 0,
+            DateTimeError::InvalidDayOfMonth(_) => 1,
+            DateTimeError::InvalidHour(_) => 2,
+            DateTimeError::InvalidMinute(_) => 3,
+            DateTimeError::InvalidSecond(_) => 4,
+            DateTimeError::InvalidNanosecond(_) => 5,
+            DateTimeError::OutOfRange => 6,
+        }
+    }
+
+    fn value(self) -> Option<u32>
+        ensures { values result ≡ (of_date_time self).values }
+    {
+        match self {
+            DateTimeError::InvalidMonth(v)
+            | DateTimeError::InvalidDayOfMonth(v)
+            | DateTimeError::InvalidHour(v)
+            | DateTimeError::InvalidMinute(v)
+            | DateTimeError::InvalidSecond(v) => Some(u32::from(v)),
+            DateTimeError::InvalidNanosecond(v) => Some(v),
+            DateTimeError::OutOfRange => None,
         }
     }
 }
 
-impl ParseDateTimeError {
-    pub fn refusal(self) -> Refusal
-        ensures { told {A = ℕ} result ≡ of_parse self }
-    {
-        match self {
-            ParseDateTimeError::MissingField => Refusal::bare(7, false),
-            ParseDateTimeError::InvalidFieldWidth => Refusal::bare(8, false),
-            ParseDateTimeError::InvalidFieldValue => Refusal::bare(9, false),
-            ParseDateTimeError::RangeError(e) => e.refusal(true),
-        }
+impl From<DateTimeError> for Refusal {
+    ghost from_gives = { λ e r. told {A = ℕ} r ≡ refuses (of_date_time e) };
+
+    fn from(e: DateTimeError) -> Refusal {
+        Refusal::Date(e)
     }
 }
 
-impl CountError {
-    pub fn refusal(self) -> Refusal
-        ensures { told {A = ℕ} result ≡ refuses (of_count self) }
-    {
-        match self {
-            CountError::NotRepresentable => Refusal::bare(10, false),
-            CountError::BadNanos => Refusal::bare(11, false),
-        }
+impl From<ParseDateTimeError> for Refusal {
+    ghost from_gives = { λ e r. told {A = ℕ} r ≡ of_parse e };
+
+    fn from(e: ParseDateTimeError) -> Refusal {
+        Refusal::Text(e)
     }
 }
 
-impl PrintError {
-    pub fn refusal(self) -> Refusal
-        ensures { told {A = ℕ} result ≡ refuses (of_print self) }
-    {
-        match self {
-            PrintError::BadNanos => Refusal::bare(11, false),
-            PrintError::StartOutside => Refusal::bare(12, false),
-            PrintError::NoRoom(wanted) => Refusal::valued(13, false, wanted),
-        }
+impl From<CountError> for Refusal {
+    ghost from_gives = { λ e r. told {A = ℕ} r ≡ refuses (of_count e) };
+
+    fn from(e: CountError) -> Refusal {
+        Refusal::Count(e)
+    }
+}
+
+impl From<PrintError> for Refusal {
+    ghost from_gives = { λ e r. told {A = ℕ} r ≡ refuses (of_print e) };
+
+    fn from(e: PrintError) -> Refusal {
+        Refusal::Print(e)
     }
 }

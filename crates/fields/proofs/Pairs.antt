@@ -12,11 +12,11 @@ use borrow.Author.Tests.{ne_eqb, le-leb, lt-ltb}
 use Rattle.errors.specs.declared.ParseDateTimeError.TheVariants.{InvalidFieldWidth, InvalidFieldValue}
 use Rattle.decimals.specs.Numbers.{is_digit, all_digits, pair_at, decimal_after, number}
 use Rattle.fields.specs.Fields.{is_delimiter, width, two_digits}
-use Rattle.decimals.specs.declared.Number.TheVariants.{Value}
+use Rattle.std.specs.Prelude.{Some, Ok, Err}
 use Rattle.fields.specs.declared.Delimiter.{Delimiter}
 use Rattle.fields.specs.declared.Delimiter.TheVariants.{Hyphen, SpaceOrT, Colon, Point}
-use Rattle.fields.specs.declared.Field.TheVariants.{Got, Last, Refused}
-use Rattle.decimals.proofs.Values.{Digit, bad_digit}
+use Rattle.fields.specs.declared.Field.TheVariants.{Got, Last}
+use Rattle.decimals.proofs.Values.{Digit, is_digit_lem, bad_digit}
 
 -- no digit is a delimiter
 pub other : (d : Delimiter) {x : ℕ} → Digit x → is_delimiter d x ≡ false
@@ -26,7 +26,7 @@ other SpaceOrT {x} h = rw (ne_eqb x 32 (λ e. omega (arith, h.low)), ne_eqb x 84
 other Colon {x} h = ne_eqb x 58 (λ e. omega (arith, h.high))
 other Point {x} h = ne_eqb x 46 (λ e. omega (arith, h.low))
 
-two : (x y : ℕ) → Digit x → Digit y → number 99 (x ∷ y ∷ []) ≡ Value ((x - 48) * 10 + (y - 48))
+two : (x y : ℕ) → Digit x → Digit y → number 99 (x ∷ y ∷ []) ≡ Some ((x - 48) * 10 + (y - 48))
 unfolding number all_digits decimal_after
 two x y h k =
     let v = le-leb ((x - 48) * 10 + (y - 48)) 99 (omega (arith, h.high, k.high)) in
@@ -41,35 +41,35 @@ one : (b : Bool) → eqb (cond b 0 1) 2 ≡ false
 one true = refl
 one false = refl
 
-pub pair_short : (d : Delimiter) (s : List ℕ) → length s < 2 → Refused InvalidFieldWidth ≡ two_digits d s
+pub pair_short : (d : Delimiter) (s : List ℕ) → length s < 2 → Err InvalidFieldWidth ≡ two_digits d s
 unfolding two_digits width
 pair_short d [] h = refl
 pair_short d (x ∷ []) h = rw (one (is_delimiter d x))
 pair_short d (x ∷ y ∷ s) h = absurd (omega arith)
 
 module _ (d : Delimiter) where
-  pub pair_last : (s : List ℕ) → length s ≡ 2 → Digit (get_or s 0 0) → Digit (get_or s 1 0) → Last (pair_at s 0) ≡ two_digits d s
+  pub pair_last : (s : List ℕ) → length s ≡ 2 → is_digit (get_or s 0 0) ≡ true → is_digit (get_or s 1 0) ≡ true → Ok (Last (pair_at s 0)) ≡ two_digits d s
   unfolding two_digits width pair_at
   pair_last [] l h k = absurd (omega arith)
   pair_last (x ∷ []) l h k = absurd (omega arith)
-  pair_last (x ∷ y ∷ []) l h k = simp (other d h, other d k, two x y h k)
+  pair_last (x ∷ y ∷ []) l h k = let p = is_digit_lem h in let q = is_digit_lem k in simp (other d p, other d q, two x y p q)
   pair_last (x ∷ y ∷ z ∷ s) l h k = absurd (omega arith)
 
-  pub pair_got : (s : List ℕ) → 2 < length s → Digit (get_or s 0 0) → Digit (get_or s 1 0) → is_delimiter d (get_or s 2 0) ≡ true → Got (pair_at s 0) ≡ two_digits d s
+  pub pair_got : (s : List ℕ) → 2 < length s → is_digit (get_or s 0 0) ≡ true → is_digit (get_or s 1 0) ≡ true → is_delimiter d (get_or s 2 0) ≡ true → Ok (Got (pair_at s 0)) ≡ two_digits d s
   unfolding two_digits width pair_at
   pair_got [] l h k e = absurd (omega arith)
   pair_got (x ∷ []) l h k e = absurd (omega arith)
   pair_got (x ∷ y ∷ []) l h k e = absurd (omega arith)
-  pair_got (x ∷ y ∷ z ∷ s) l h k e = simp (other d h, other d k, e, two x y h k, lt-ltb 2 (suc (suc (suc (length s)))) (omega arith))
+  pair_got (x ∷ y ∷ z ∷ s) l h k e = let p = is_digit_lem h in let q = is_digit_lem k in simp (other d p, other d q, e, two x y p q, lt-ltb 2 (suc (suc (suc (length s)))) (omega arith))
 
-  pub pair_wide : (s : List ℕ) → 2 < length s → Digit (get_or s 0 0) → Digit (get_or s 1 0) → is_delimiter d (get_or s 2 0) ≡ false → Refused InvalidFieldWidth ≡ two_digits d s
+  pub pair_wide : (s : List ℕ) → 2 < length s → is_digit (get_or s 0 0) ≡ true → is_digit (get_or s 1 0) ≡ true → is_delimiter d (get_or s 2 0) ≡ false → Err InvalidFieldWidth ≡ two_digits d s
   unfolding two_digits width
   pair_wide [] l h k e = absurd (omega arith)
   pair_wide (x ∷ []) l h k e = absurd (omega arith)
   pair_wide (x ∷ y ∷ []) l h k e = absurd (omega arith)
-  pair_wide (x ∷ y ∷ z ∷ s) l h k e = simp (other d h, other d k, e, ne_eqb (suc (suc (suc (width d s)))) 2 (λ g. omega arith))
+  pair_wide (x ∷ y ∷ z ∷ s) l h k e = simp (other d (is_digit_lem h), other d (is_digit_lem k), e, ne_eqb (suc (suc (suc (width d s)))) 2 (λ g. omega arith))
 
-  pub pair_bad : (s : List ℕ) → 2 ≤ length s → width d s ≡ 2 → (is_digit (get_or s 0 0) ≡ false) ⊎ (is_digit (get_or s 1 0) ≡ false) → Refused InvalidFieldValue ≡ two_digits d s
+  pub pair_bad : (s : List ℕ) → 2 ≤ length s → width d s ≡ 2 → (is_digit (get_or s 0 0) ≡ false) ⊎ (is_digit (get_or s 1 0) ≡ false) → Err InvalidFieldValue ≡ two_digits d s
   unfolding two_digits
   pair_bad [] l w e = absurd (omega arith)
   pair_bad (x ∷ []) l w e = absurd (omega arith)

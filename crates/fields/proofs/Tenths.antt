@@ -13,7 +13,7 @@ use borrow.Author.Tests.{lt-ltb}
 use Rattle.decimals.specs.Numbers.{all_digits, decimal_after, decimal}
 use Rattle.fields.specs.Fields.{nanoseconds, fraction}
 use Rattle.errors.specs.declared.ParseDateTimeError.TheVariants.{MissingField, InvalidFieldValue}
-use Rattle.fields.specs.declared.Seconds.TheVariants.{Got, Refused}
+use Rattle.std.specs.Prelude.{Ok, Err}
 
 -- the first digit weighs w
 unfoldable pub weighed : ℕ → List ℕ → ℕ
@@ -71,14 +71,14 @@ module _ (n : ℕ) (s : List ℕ) (i : ℕ) (low : i < 9) where
 
 -- ---- what follows the point
 module _ (sec : ℕ) (s : List ℕ) where
-  pub no_fraction : length s ≡ 0 → Refused MissingField ≡ fraction sec s
+  pub no_fraction : length s ≡ 0 → Err MissingField ≡ fraction sec s
   unfolding fraction
   no_fraction h = rw h
 
-  pub bad_fraction : 0 < length s → all_digits s ≡ false → Refused InvalidFieldValue ≡ fraction sec s
+  pub bad_fraction : 0 < length s → all_digits s ≡ false → Err InvalidFieldValue ≡ fraction sec s
   unfolding fraction
   bad_fraction h e = rw (lt-ltb 0 (length s) h, e)
 
-  pub good_fraction : 0 < length s → all_digits s ≡ true → {n : ℕ} → nanoseconds s ≡ n → Got sec n ≡ fraction sec s
+  pub good_fraction : 0 < length s → all_digits s ≡ true → {n : ℕ} → nanoseconds s ≡ n → Ok (record { sec = sec; nano = n }) ≡ fraction sec s
   unfolding fraction
   good_fraction h e k = rw (lt-ltb 0 (length s) h, e, k)

@@ -1,25 +1,15 @@
--- The width of a field, one byte after the other.
-use mathlib.Core.Path.{◌≡◌}
-use mathlib.Core.Bool.{true, false}
-use mathlib.Core.List.{List}
-use Prim.Native.Nat.{ℕ, ◌+◌, ◌<◌, ◌≤◌}
-use native.Mathlib.Nat.{add-zero}
-use native.Mathlib.Numerals.{add-one}
-use native.Mathlib.Omega.{arith}
-use lib.ListN.{length, drop, get_or, drop_of_length-le}
-use lib.Seq.{drop-cons}
+-- The width of a field is the place of its first delimiter.
+use Rattle.std.proofs.Common.{◌≡◌, refl, ◌∙◌, cond, Some, None, List, ℕ, ◌≤◌, length, nat_lt, arith, unwrap_or, rules}
+use Rattle.std.specs.List.{position}
+use Rattle.std.proofs.lemmas.Grind.{common_steps}
+use Rattle.std.proofs.lemmas.List.Recursion.{is_position_or_len}
+use Rattle.std.proofs.lemmas.List.Sums.{prefix_len-le-length}
 use Rattle.fields.specs.Fields.{is_delimiter, width}
 use Rattle.fields.specs.declared.Delimiter.{Delimiter}
 
-module _ (d : Delimiter) (s : List ℕ) (i : ℕ) where
-  pub width_found : i < length s → is_delimiter d (get_or s i 0) ≡ true → i + width d (drop i s) ≡ i
-  unfolding width
-  width_found h e = rw (drop-cons s i 0 h, e, add-zero)
+first : (n l : ℕ) → n ≤ l → n ≡ unwrap_or (cond (nat_lt n l) (Some n) None) l
+first n l h = grind (arith, common_steps)
 
-  pub width_more : i < length s → is_delimiter d (get_or s i 0) ≡ false → i + width d (drop i s) ≡ i + 1 + width d (drop (i + 1) s)
-  unfolding width
-  width_more h e = rw (drop-cons s i 0 h, e, add-one) (omega arith)
-
-  pub width_end : length s ≤ i → i + width d (drop i s) ≡ i
-  unfolding width
-  width_end h = rw (drop_of_length-le s h, add-zero)
+pub width_is : (d : Delimiter) (s : List ℕ) → width d s ≡ unwrap_or (position (is_delimiter d) s) (length s)
+unfolding width
+width_is d s = is_position_or_len (width d) (is_delimiter d) refl (λ x xs. search rules) s ∙ first _ _ (prefix_len-le-length _ s)

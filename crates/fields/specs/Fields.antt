@@ -1,5 +1,6 @@
 -- The field at the front of a text: its width is tested first, then its value, then its delimiter.
-use Rattle.std.specs.Prelude.{Bool, true, false, cond, ◌||◌, List, [], ◌∷◌, ℕ, suc, ◌+◌, ◌-◌, ◌*◌, ◌^◌, ltb, eqb, length, take, drop}
+use Rattle.std.specs.Prelude.{Bool, true, false, cond, ◌||◌, Result, Ok, Err, List, [], ◌∷◌, ℕ, suc, ◌+◌, ◌-◌, ◌*◌, ◌^◌, ltb, eqb, length, take, drop}
+use Rattle.errors.specs.declared.ParseDateTimeError.{ParseDateTimeError}
 use Rattle.errors.specs.declared.ParseDateTimeError.TheVariants.{MissingField, InvalidFieldWidth, InvalidFieldValue}
 use Rattle.decimals.specs.Numbers.{all_digits, decimal, number, on_number}
 use Rattle.fields.specs.declared.Delimiter.{Delimiter}
@@ -37,26 +38,26 @@ abbrev pub behind : Delimiter → List ℕ → List ℕ
 behind d s = drop (width d s + 1) s
 
 -- a field of two bytes
-unfoldable pub two_digits : Delimiter → List ℕ → Field
+unfoldable pub two_digits : Delimiter → List ℕ → Result Field ParseDateTimeError
 two_digits d s =
-    unless (eqb (width d s) 2) (Field.Refused InvalidFieldWidth)
-    (on_number (number 99 (before d s)) (Field.Refused InvalidFieldValue) (cond (delimited d s) Field.Got Field.Last))
+    unless (eqb (width d s) 2) (Err InvalidFieldWidth)
+    (on_number (number 99 (before d s)) (Err InvalidFieldValue) λ v. Ok (cond (delimited d s) (Field.Got v) (Field.Last v)))
 
 -- the nanoseconds that digits behind the point stand for: those past nine count for nothing
 unfoldable pub nanoseconds : List ℕ → ℕ
 nanoseconds s = decimal (take 9 s) * 10 ^ (9 - length s)
 
 -- what follows the point: at least one digit, and digits only
-unfoldable pub fraction : ℕ → List ℕ → Seconds
+unfoldable pub fraction : ℕ → List ℕ → Result Seconds ParseDateTimeError
 fraction sec s =
-    unless (ltb 0 (length s)) (Seconds.Refused MissingField)
-    (unless (all_digits s) (Seconds.Refused InvalidFieldValue) (Seconds.Got sec (nanoseconds s)))
+    unless (ltb 0 (length s)) (Err MissingField)
+    (unless (all_digits s) (Err InvalidFieldValue) (Ok (record { sec = sec; nano = nanoseconds s })))
 
 -- the seconds end at the point or with the text
-abbrev pub with_fraction : Field → List ℕ → Seconds
-with_fraction (Field.Got sec) rest = fraction sec rest
-with_fraction (Field.Last sec) rest = Seconds.Got sec 0
-with_fraction (Field.Refused e) rest = Seconds.Refused e
+abbrev pub with_fraction : Result Field ParseDateTimeError → List ℕ → Result Seconds ParseDateTimeError
+with_fraction (Ok (Field.Got sec)) rest = fraction sec rest
+with_fraction (Ok (Field.Last sec)) rest = Ok (record { sec = sec; nano = 0 })
+with_fraction (Err e) rest = Err e
 
-unfoldable pub seconds : List ℕ → Seconds
+unfoldable pub seconds : List ℕ → Result Seconds ParseDateTimeError
 seconds s = with_fraction (two_digits Point s) (behind Point s)

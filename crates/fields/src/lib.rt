@@ -19,14 +19,12 @@ pub enum Delimiter {
 pub enum Field {
     Got(u8),
     Last(u8),
-    Refused(ParseDateTimeError),
 }
 
-// The seconds and their nanoseconds.
 #[derive(Clone, Copy)]
-pub enum Seconds {
-    Got(u8, u32),
-    Refused(ParseDateTimeError),
+pub struct Seconds {
+    pub sec: u8,
+    pub nano: u32,
 }
 
 #[tactic(auto, unfolding(crate::specs::Fields::is_delimiter))]
@@ -35,7 +33,7 @@ pub fn is_delimiter(delimiter: Delimiter, byte: u8) -> bool
 {
     match delimiter {
         Delimiter::Hyphen => byte == b'-',
-        Delimiter::SpaceOrT => byte == b' ' || byte == b'T' || byte == b't',
+        Delimiter::SpaceOrT => matches!(byte, b' ' | b'T' | b't'),
         Delimiter::Colon => byte == b':',
         Delimiter::Point => byte == b'.',
     }
@@ -46,76 +44,63 @@ pub fn find(s: &[u8], delimiter: Delimiter) -> usize
     ensures value { result ≡ width delimiter s.now }
     ensures within { result ≤ length s.now }
 {
-    let mut i = 0;
-    while i < s.len() {
-        if is_delimiter(delimiter, s[i]) {
-            return i;
-        }
-        i += 1;
-    }
-    i
+    s.iter()
+        .position(|x| is_delimiter(delimiter, *x))
+        .unwrap_or(s.len())
 }
 
 // Two digits are no delimiter, so that the byte behind them tells the width; anything else is refused, by its width.
-pub fn pull_two_digits(s: &[u8], delimiter: Delimiter) -> Field
+pub fn pull_two_digits(s: &[u8], delimiter: Delimiter) -> Result<Field, ParseDateTimeError>
     ensures { result ≡ two_digits delimiter s.now }
 {
     if s.len() < 2 {
-        return Field::Refused(ParseDateTimeError::InvalidFieldWidth);
+        return Err(ParseDateTimeError::InvalidFieldWidth);
     }
     if decimals::is_digit(s[0]) && decimals::is_digit(s[1]) {
         let value = decimals::pair(s, 0);
         if s.len() == 2 {
-            return Field::Last(value);
+            return Ok(Field::Last(value));
         }
         if is_delimiter(delimiter, s[2]) {
-            return Field::Got(value);
+            return Ok(Field::Got(value));
         }
-        return Field::Refused(ParseDateTimeError::InvalidFieldWidth);
+        return Err(ParseDateTimeError::InvalidFieldWidth);
     }
-    Field::Refused(if find(s, delimiter) == 2 {
-        ParseDateTimeError::InvalidFieldValue
+    if find(s, delimiter) == 2 {
+        Err(ParseDateTimeError::InvalidFieldValue)
     } else {
-        ParseDateTimeError::InvalidFieldWidth
-    })
+        Err(ParseDateTimeError::InvalidFieldWidth)
+    }
 }
 
 // Nine places, of which those behind the last digit are 0; every digit is validated, those past nine too.
-pub fn pull_fraction(sec: u8, digits: &[u8]) -> Seconds
+pub fn pull_fraction(sec: u8, digits: &[u8]) -> Result<Seconds, ParseDateTimeError>
     ensures { result ≡ fraction sec digits.now }
 {
-    if digits.len() == 0 {
-        return Seconds::Refused(ParseDateTimeError::MissingField);
+    if digits.is_empty() {
+        return Err(ParseDateTimeError::MissingField);
     }
     let mut nano: u32 = 0;
-    let mut i = 0;
-    while i < 9 {
+    for i in 0..9 {
         nano *= 10;
-        if i < digits.len() {
-            let x = digits[i];
-            if !decimals::is_digit(x) {
-                return Seconds::Refused(ParseDateTimeError::InvalidFieldValue);
+        if let Some(x) = digits.get(i) {
+            if !decimals::is_digit(*x) {
+                return Err(ParseDateTimeError::InvalidFieldValue);
             }
-            nano += (x - b'0') as u32;
+            nano += u32::from(*x - b'0');
         }
-        i += 1;
     }
-    while i < digits.len() {
-        if !decimals::is_digit(digits[i]) {
-            return Seconds::Refused(ParseDateTimeError::InvalidFieldValue);
-        }
-        i += 1;
+    if 9 < digits.len() && !digits[9..].iter().all(|x| decimals::is_digit(*x)) {
+        return Err(ParseDateTimeError::InvalidFieldValue);
     }
-    Seconds::Got(sec, nano)
+    Ok(Seconds { sec, nano })
 }
 
-pub fn pull_seconds(s: &[u8]) -> Seconds
+pub fn pull_seconds(s: &[u8]) -> Result<Seconds, ParseDateTimeError>
     ensures { result ≡ seconds s.now }
 {
-    let f = pull_two_digits(s, Delimiter::Point);
-    match f {
+    match pull_two_digits(s, Delimiter::Point)? {
         Field::Got(sec) => pull_fraction(sec, decimals::skip(s, 3)),
-        Field::Last(sec) => Seconds::Got(sec, 0),
-        Field::Refused(e) => Seconds::Refused(e),
+        Field::Last(sec) => Ok(Seconds { sec, nano: 0 }),
     }
 }

@@ -1,9 +1,9 @@
 -- Two's complement in exact integers: a wrapped number is the number but for whole turns of 2^64.
-use Rattle.std.proofs.Common.{◌≡◌, ℕ, suc, ◌+◌, ◌*◌, ◌/◌, ◌%◌, ◌^◌, ◌<◌, ◌≤◌, ℤ, pos, negsuc, ◌+ℤ◌, ◌-ℤ◌, sym, ap, ◌∙◌, subst, arith, w64, SFits, to_z, of_z}
+use Rattle.std.proofs.Common.{◌≡◌, ℕ, suc, ◌+◌, ◌-◌, ◌*◌, ◌/◌, ◌%◌, ◌^◌, ◌<◌, ◌≤◌, ℤ, pos, negsuc, refl, ◌+ℤ◌, ◌-ℤ◌, sym, ap, ◌∙◌, subst, arith, w64, SFits, to_z, of_z}
 use native.Mathlib.Decide.{dec_lt}
-use mir.ValLaws.{to_z-of_z, to_z-Fits}
+use mir.ValLaws.{to_z-Fits}
 use Rattle.integers.specs.Integers.{Floor, floor_div, floor_mod, wrapped}
-use Rattle.integers.proofs.Signed.{plus, minus, add_law, diff_law, eq_z}
+use Rattle.integers.proofs.Signed.{plus, minus, add_law, diff_law}
 use Rattle.integers.proofs.Machine.{Known, known, read_pos, read_neg}
 use Rattle.integers.proofs.Floor.{floor_law, floor_one, splits, to_floor}
 
@@ -36,19 +36,14 @@ mod_sub {a} {b} {u} x y e f k h =
     let m = diff_law (p -ℤ q) (pos t) in
     (floor_one (to_floor {q = p -ℤ q -ℤ pos t} {r = u} (omega (arith, diff_law x y, splits (turns x), splits (turns y))) k) (turns (x -ℤ y))).1
 
--- the difference of two numbers' bits is their difference, where the first is not the smaller
-pub bits_since : {a b u : ℕ} {x y : ℤ} → SFits w64 x → SFits w64 y → b ≡ of_z w64 x → a ≡ of_z w64 y → u < 2 ^ 64 → (u + a) % 2 ^ 64 ≡ b → plus y + minus x ≤ plus x + minus y → u + plus y + minus x ≡ plus x + minus y
-bits_since {u = u} {x = x} {y = y} f g e d k h l =
-    let n = plus (x -ℤ y) in
-    let s = diff_law x y in
-    let kx = known f in
-    let ky = known g in
-    let z : x -ℤ y ≡ pos n = positive (x -ℤ y) (omega arith) in
-    let t : u ≡ n = mod_sub x y (e ∙ bits_mod f) (d ∙ bits_mod g) k h ∙ ap (floor_mod (2 ^ 64)) z ∙ small_mod n (omega (arith, ap minus z)) in
-    omega (arith, ap minus z)
-  where
-    positive : (z : ℤ) → minus z ≤ plus z → z ≡ pos (plus z)
-    positive z h = eq_z z (pos (plus z)) (omega (arith, Rattle.integers.proofs.Signed.apart z))
+-- std's wrapping sum and difference
+pub wrapping_add : (x : ℤ) (d : ℕ) → SFits w64 x → to_z w64 ((of_z w64 x + d) % 2 ^ 64) ≡ wrapped (x +ℤ pos d)
+unfolding wrapped
+wrapping_add x d f = ap (to_z w64) (mod_add x d (bits_mod f) refl)
+
+pub wrapping_sub : (x : ℤ) (d : ℕ) → SFits w64 x → d < 2 ^ 64 → to_z w64 ((of_z w64 x + (2 ^ 64 - d)) % 2 ^ 64) ≡ wrapped (x -ℤ pos d)
+unfolding wrapped
+wrapping_sub x d f h = ap (to_z w64) (mod_sub x (pos d) (bits_mod f) (sym (small_mod d h)) (omega arith) (omega (arith, bits_mod f, (turns x).small)))
 
 -- r is z but for whole turns, and fits
 record Turned (z r : ℤ) : Type 0 where
@@ -80,9 +75,9 @@ pub record Added (x : ℤ) (d : ℕ) (r : ℤ) : Type 0 where
   pub stays : plus x + minus r ≤ plus r + minus x → plus r + minus x ≡ plus x + d + minus r
   pub wraps : plus r + minus x < plus x + minus r → plus r + minus x + 2 ^ 64 ≡ plus x + d + minus r
 
-pub added : {x r : ℤ} {d : ℕ} → SFits w64 x → d < 2 ^ 64 → r ≡ wrapped (to_z w64 (of_z w64 x) +ℤ pos d) → Added x d r
+pub added : {x r : ℤ} {d : ℕ} → SFits w64 x → d < 2 ^ 64 → r ≡ to_z w64 ((of_z w64 x + d) % 2 ^ 64) → Added x d r
 added {x} {r} {d} f h e =
-    let t = subst (λ z. Turned (x +ℤ pos d) z) (sym (e ∙ ap (λ z. wrapped (z +ℤ pos d)) (to_z-of_z w64 x f))) (turned (x +ℤ pos d)) in
+    let t = subst (λ z. Turned (x +ℤ pos d) z) (sym (e ∙ wrapping_add x d f)) (turned (x +ℤ pos d)) in
     let o = known f in
     let n = known t.fits in
     let l = add_law x (pos d) in
@@ -95,9 +90,9 @@ pub record Taken (x : ℤ) (d : ℕ) (r : ℤ) : Type 0 where
   pub stays : plus r + minus x ≤ plus x + minus r → plus r + minus x + d ≡ plus x + minus r
   pub wraps : plus x + minus r < plus r + minus x → plus r + minus x + d ≡ plus x + minus r + 2 ^ 64
 
-pub taken : {x r : ℤ} {d : ℕ} → SFits w64 x → d < 2 ^ 64 → r ≡ wrapped (to_z w64 (of_z w64 x) -ℤ pos d) → Taken x d r
+pub taken : {x r : ℤ} {d : ℕ} → SFits w64 x → d < 2 ^ 64 → r ≡ to_z w64 ((of_z w64 x + (2 ^ 64 - d)) % 2 ^ 64) → Taken x d r
 taken {x} {r} {d} f h e =
-    let t = subst (λ z. Turned (x -ℤ pos d) z) (sym (e ∙ ap (λ z. wrapped (z -ℤ pos d)) (to_z-of_z w64 x f))) (turned (x -ℤ pos d)) in
+    let t = subst (λ z. Turned (x -ℤ pos d) z) (sym (e ∙ wrapping_sub x d f h)) (turned (x -ℤ pos d)) in
     let o = known f in
     let n = known t.fits in
     let l = diff_law x (pos d) in

@@ -1,10 +1,8 @@
 -- What the functions on signed numbers mean, in exact integers. (`pos n` is n, and `negsuc n` is -1 - n.)
-use Rattle.std.specs.Prelude.{◌≡◌, ℕ, suc, ◌-◌, ◌/◌, ◌%◌, ◌^◌, ◌<◌, ◌≤◌, Bool, cond, ℤ, pos, negsuc, ◌+ℤ◌, ◌*ℤ◌, nat_lt, unsigned_abs}
+use Rattle.std.specs.Prelude.{◌≡◌, ℕ, suc, ◌-◌, ◌/◌, ◌%◌, ◌^◌, ◌<◌, ◌≤◌, Bool, cond, Option, Some, None, ℤ, pos, negsuc, ◌+ℤ◌, ◌*ℤ◌, nat_lt, unsigned_abs}
 use Rattle.std.specs.Int.{w64}
 use Rattle.std.proofs.Common.{to_z}
 use Rattle.integers.specs.declared.Parts.{Parts}
-use Rattle.integers.specs.declared.Checked.{Checked}
-use Rattle.integers.specs.declared.Checked.TheVariants.{Exact, Outside}
 
 -- n is q times k and r more, and r is below k: q is n / k rounded down
 pub record Floor (k : ℕ) (n q : ℤ) (r : ℕ) : Type 0 where
@@ -36,8 +34,8 @@ is_i64 (pos n) = nat_lt n (2 ^ 63)
 is_i64 (negsuc n) = nat_lt n (2 ^ 63)
 
 -- z, where an i64 holds it
-unfoldable pub checked : ℤ → Checked
-checked z = cond (is_i64 z) (Exact z) Outside
+unfoldable pub checked : ℤ → Option ℤ
+checked z = cond (is_i64 z) (Some z) None
 
 -- the i64 that differs from z by a multiple of 2^64
 unfoldable pub wrapped : ℤ → ℤ

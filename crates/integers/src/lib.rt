@@ -1,88 +1,31 @@
-// Signed numbers: quotients that round down, sums that may leave i64, and two's complement.
+// Signed numbers: quotients that round down, and sums that may leave i64.
 #![tactic(auto)]
 
 ghost use Rattle.std.specs.Prelude.{◌≡◌, ◌+◌, ◌*◌, ◌^◌, ◌<◌, pos, negsuc, ◌+ℤ◌, ◌-ℤ◌, ◌<ℤ◌, nat_lt};
-ghost use Rattle.std.specs.Int.{w64};
-ghost use Rattle.std.proofs.Common.{of_z, to_z};
-ghost use Rattle.integers.specs.Integers.{Floor, whole, Proper, checked, wrapped};
+ghost use Rattle.integers.specs.Integers.{Floor, whole, Proper, checked};
 
-const LOW: i64 = -9223372036854775808;
+const LOW: i128 = i64::MIN as i128;
 
-const TOP: i64 = 9223372036854775807;
+const TOP: i128 = i64::MAX as i128;
 
-// 2^63.
-const HALF: u64 = 9223372036854775808;
+const SIZE_TOP: u64 = i64::MAX as u64;
 
-// An exact result that an i64 holds, or none.
-#[derive(Clone, Copy)]
-pub enum Checked {
-    Exact(i64),
-    Outside,
-}
-
-pub fn checked_add(a: i64, b: i64) -> Checked
-    ensures { result ≡ checked (a +ℤ b) }
+// a + more + b - less: what leaves i64 on the way may come back.
+fn exact_sum(a: i64, more: u64, b: i64, less: i64) -> i128
+    ensures { result ≡ a +ℤ pos more +ℤ b -ℤ less }
 {
-    if b < 0 {
-        if a < LOW - b {
-            return Checked::Outside;
-        }
-        return Checked::Exact(a + b);
-    }
-    if TOP - b < a {
-        return Checked::Outside;
-    }
-    Checked::Exact(a + b)
+    i128::from(a) + i128::from(more) + i128::from(b) - i128::from(less)
 }
 
-pub fn checked_sub(a: i64, b: i64) -> Checked
-    ensures { result ≡ checked (a -ℤ b) }
-{
-    if b < 0 {
-        if TOP + b < a {
-            return Checked::Outside;
-        }
-        return Checked::Exact(a - b);
-    }
-    if a < LOW + b {
-        return Checked::Outside;
-    }
-    Checked::Exact(a - b)
-}
-
-// x + 2^63, which turns every i64 into a u64 and keeps the order.
-fn raised(x: i64) -> u64
-    ensures { pos result ≡ x +ℤ pos (2 ^ 63) }
-{
-    if x < 0 {
-        return (x - LOW) as u64;
-    }
-    HALF + (x as u64)
-}
-
-// x - 2^63, the way back.
-fn lowered(x: u64) -> i64
-    ensures { result ≡ pos x -ℤ pos (2 ^ 63) }
-{
-    if x < HALF {
-        return LOW + (x as i64);
-    }
-    (x - HALF) as i64
-}
-
-// a + more + b - less, decided on the exact sum: what leaves on the way comes back if it carries as often as it borrows.
-pub fn checked_sum(a: i64, more: u64, b: i64, less: i64) -> Checked
+// The same, where an i64 holds it.
+pub fn checked_sum(a: i64, more: u64, b: i64, less: i64) -> Option<i64>
     ensures { result ≡ checked (a +ℤ pos more +ℤ b -ℤ less) }
 {
-    let first = raised(a);
-    let last = raised(less);
-    let two = std::num::wrapping_add_u64(first, more);
-    let three = std::num::wrapping_add_u64(two, raised(b));
-    let carries = (two < first) as u64 + (three < two) as u64;
-    if carries == (three < last) as u64 {
-        return Checked::Exact(lowered(std::num::wrapping_sub_u64(three, last)));
+    let exact = exact_sum(a, more, b, less);
+    if exact < LOW || TOP < exact {
+        return None;
     }
-    Checked::Outside
+    Some(exact as i64)
 }
 
 // -1 - x, which turns a number below 0 into one that a u64 holds.
@@ -131,14 +74,11 @@ fn is_below_top(n: u64, divisor: u64, rest: u64) -> bool
     requires { rest < divisor }
     ensures { result ≡ nat_lt (n * divisor + rest) (2 ^ 63) }
 {
-    if 9223372036854775807 < rest {
-        return false;
-    }
-    n <= (9223372036854775807 - rest) / divisor
+    rest <= SIZE_TOP && n <= (SIZE_TOP - rest) / divisor
 }
 
 // What floor_split takes apart, put together again.
-pub fn floor_join(parts: Parts, divisor: u64) -> Checked
+pub fn floor_join(parts: Parts, divisor: u64) -> Option<i64>
     requires { parts.rest < divisor }
     ensures { result ≡ checked (whole divisor parts) }
 {
@@ -148,15 +88,15 @@ pub fn floor_join(parts: Parts, divisor: u64) -> Checked
         let below = complement(quotient);
         let missing = divisor - 1 - rest;
         if is_below_top(below, divisor, missing) {
-            return Checked::Exact(negative(below * divisor + missing));
+            return Some(negative(below * divisor + missing));
         }
-        return Checked::Outside;
+        return None;
     }
     let above = quotient as u64;
     if is_below_top(above, divisor, rest) {
-        return Checked::Exact((above * divisor + rest) as i64);
+        return Some((above * divisor + rest) as i64);
     }
-    Checked::Outside
+    None
 }
 
 // The parts of a sum, from those of its addends: the sum itself need not fit.
@@ -191,36 +131,4 @@ pub fn sub_parts(a: Parts, b: Parts, divisor: u64) -> Parts
         quotient: quotient - 1,
         rest: a.rest + divisor - b.rest,
     }
-}
-
-// The 64 bits of a number in two's complement.
-pub fn to_bits(x: i64) -> u64
-    ensures { result ≡ of_z w64 x }
-{
-    if x < 0 {
-        return 18446744073709551615 - complement(x);
-    }
-    x as u64
-}
-
-// The number that has these 64 bits.
-fn from_bits(bits: u64) -> i64
-    ensures { result ≡ to_z w64 bits }
-{
-    if bits < 9223372036854775808 {
-        return bits as i64;
-    }
-    negative(18446744073709551615 - bits)
-}
-
-pub fn wrapping_add_unsigned(x: i64, y: u64) -> i64
-    ensures { result ≡ wrapped (x +ℤ pos y) }
-{
-    from_bits(std::num::wrapping_add_u64(to_bits(x), y))
-}
-
-pub fn wrapping_sub_unsigned(x: i64, y: u64) -> i64
-    ensures { result ≡ wrapped (x -ℤ pos y) }
-{
-    from_bits(std::num::wrapping_sub_u64(to_bits(x), y))
 }

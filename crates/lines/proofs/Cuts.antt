@@ -1,18 +1,19 @@
 -- An input cut behind its first line, or within it.
-use mathlib.Core.Path.{◌≡◌, refl}
-use mathlib.Core.Bool.{Bool, true, false, not}
+use mathlib.Core.Path.{◌≡◌, refl, sym, ap, ◌∙◌}
+use mathlib.Core.Bool.{Bool, true, false}
 use mathlib.Core.List.{List, [], ◌∷◌, ◌++◌}
 use Prim.Native.Nat.compare
-use Prim.Native.Nat.{ℕ, suc, ◌+◌, ◌<◌, ◌≤◌}
+use Prim.Native.Nat.{ℕ, suc, ◌<◌, ◌≤◌}
 use native.Mathlib.Omega.{arith}
 use mathlib.Core.Logic.{◌⊎◌, inl, inr}
 use lib.Dec.{eqb}
 use lib.ListN.{length, take, drop}
-use borrow.Author.Tests.{eqb-true, eqb-false}
-use mir.Val.{bool_byte}
 use Rattle.words.specs.Bytes.{index_of}
 use Rattle.lines.specs.Lines.{lines, in_first, others, ready, answers_to, answers}
-use Rattle.lines.specs.FirstLine.{continues, first_of}
+use Rattle.std.specs.Prelude.{Some}
+use Rattle.std.specs.Bool.{then_some}
+use Rattle.lines.specs.FirstLine.{continues, decides, first_of}
+use Rattle.lines.specs.declared.First.{First}
 
 -- the first line
 abbrev pub first : List (List ℕ) → List ℕ
@@ -79,17 +80,17 @@ index_le (x ∷ s) = at (eqb x 10) refl (index_le s)
     at true e h = rw e (omega arith)
     at false e h = rw (index_more x s e) (omega arith)
 
+-- what the length that decides tells, where it is there
+pub first_some : (ended : Bool) (s : List ℕ) {f : First} {n : ℕ} → f ≡ first_of ended s → f.length ≡ Some n → (ready ended s ≡ true) × (n ≡ decides s)
+first_some ended s {n = n} e k = go (ready ended s) (sym k ∙ ap (λ (f : First). f.length) e)
+  where
+    go : (b : Bool) → Some n ≡ then_some b (decides s) → (b ≡ true) × (n ≡ decides s)
+    go true h = (refl, cc)
+    go false h = cc
+
 -- of bytes that are there, some are used, and no more
 pub used_some : (s : List ℕ) → (used s ≤ length s) × (0 < length s → 0 < used s)
 used_some s = (omega arith, λ h. omega arith)
-
--- those of the line, and its LF where one ends it
-pub used_is : (s : List ℕ) → index_of 10 s + bool_byte (not (continues s)) ≡ used s
-used_is s = at (continues s) refl (index_le s)
-  where
-    at : (b : Bool) → continues s ≡ b → index_of 10 s ≤ length s → index_of 10 s + bool_byte (not b) ≡ used s
-    at true e h = let k : index_of 10 s ≡ length s = eqb-true _ _ e in omega arith
-    at false e h = let k : index_of 10 s ≡ length s → ⊥ = eqb-false _ _ e in omega arith
 
 -- the answers to an input cut behind its first line, or within it
 module _ (answer : List ℕ → List ℕ) where

@@ -12,7 +12,7 @@ use borrow.Rule.Slice.PartMut.{mid_of, put_mid, same_len_mid}
 use borrow.Author.Tests.{le-ltb, ltb-true, ltb-false, eqb-true}
 use Rattle.words.specs.Bytes.{index_of}
 use Rattle.lines.specs.Lines.{lines, input, ready, Done, Turn}
-use Rattle.lines.specs.FirstLine.{continues, first_of}
+use Rattle.lines.specs.FirstLine.{continues, decides}
 use Rattle.lines.specs.declared.Answered.{Answered}
 use Rattle.lines.proofs.Cuts.{first, used, first_line, first_long, ready_some, index_le, used_some, pass, answers_first}
 
@@ -47,7 +47,7 @@ pub record Wrote (text out : List ℕ) (w : ℕ) (out' : List ℕ) : Type 0 wher
 module _ (answer : List ℕ → List ℕ) (too_long : (s t : List ℕ) → 65535 < length s → 65535 < length t → answer s ≡ answer t) where
   -- so the bytes that decide the answer to the first line are enough
   line_text : (s later : List ℕ) (ended : Bool) → ready ended s ≡ true
-      → answer (first (lines (input ended s later))) ≡ answer (take (first_of ended s).length s)
+      → answer (first (lines (input ended s later))) ≡ answer (take (decides s) s)
   unfolding ready
   line_text s later ended e = at (ltb 65535 (index_of 10 s)) refl
     where
@@ -72,7 +72,7 @@ module _ (answer : List ℕ → List ℕ) (too_long : (s t : List ℕ) → 65535
           rw (q, first_line t s (known ended (continues s) refl refl m))
 
   pub turn_answered : (s : List ℕ) (ended : Bool) {out out' : List ℕ} {w : ℕ} → ready ended s ≡ true
-      → Wrote (answer (take (first_of ended s).length s)) out w out'
+      → Wrote (answer (take (decides s) s)) out w out'
       → Turn answer s false ended out out' (record { used = used s; written = w; within = continues s })
   turn_answered s ended e wrote =
       record {

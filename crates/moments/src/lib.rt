@@ -7,9 +7,7 @@ ghost use Rattle.calendar.specs.Walk.{Valid};
 ghost use Rattle.moments.specs.Moments.{time_of_day, moment_at, ValidTime, second_of_day, seconds_of};
 
 use calendar::{Date, date_in_cycle, day_of_date};
-use integers::{
-    Checked, Parts, add_parts, checked_add, checked_sub, floor_join, floor_split, sub_parts,
-};
+use integers::{Parts, add_parts, floor_join, floor_split, sub_parts};
 
 #[derive(Clone, Copy)]
 pub struct Time {
@@ -25,10 +23,17 @@ pub struct Moment {
 }
 
 // The seconds of 400 years.
-const CYCLE_SECS: u64 = 12622780800;
+const CYCLE_SECS: u64 = 12_622_780_800;
 
 // The seconds from year 0 to 1970.
-const SECS_TO_1970: i64 = 62167219200;
+const SECS_TO_1970: i64 = 62_167_219_200;
+
+const DAY_SECS: u64 = 86_400;
+
+// Of years and epochs within these ends no difference of seconds leaves i64.
+const NEAR_YEARS: i64 = 10_000_000_000;
+
+const NEAR_EPOCHS: i64 = 1 << 62;
 
 #[tactic(auto, unfolding(crate::specs::Moments::time_of_day))]
 fn time_at(second: u32) -> Time
@@ -46,8 +51,8 @@ fn time_at(second: u32) -> Time
 fn from_year_0(seconds: i64, epoch: i64) -> Parts
     ensures { Floor 12622780800 (seconds +ℤ epoch +ℤ pos 62167219200) result.quotient result.rest }
 {
-    if let Checked::Exact(sum) = checked_add(seconds, epoch) {
-        if let Checked::Exact(sum) = checked_add(sum, SECS_TO_1970) {
+    if let Some(sum) = seconds.checked_add(epoch) {
+        if let Some(sum) = sum.checked_add(SECS_TO_1970) {
             return floor_split(sum, CYCLE_SECS);
         }
     }
@@ -65,9 +70,10 @@ pub fn secs_to_date_time(seconds: i64, epoch: i64) -> Moment
     ensures { result ≡ moment_at (seconds +ℤ epoch) }
 {
     let parts = from_year_0(seconds, epoch);
-    let date = date_in_cycle(parts.quotient, (parts.rest / 86400) as u32);
-    let time = time_at((parts.rest % 86400) as u32);
-    Moment { date, time }
+    Moment {
+        date: date_in_cycle(parts.quotient, (parts.rest / DAY_SECS) as u32),
+        time: time_at((parts.rest % DAY_SECS) as u32),
+    }
 }
 
 #[tactic(auto, unfolding(crate::specs::Moments::second_of_day))]
@@ -83,40 +89,34 @@ fn secs_from_1970(m: Moment) -> i64
     requires { (nat_abs m.date.year ≤ 10_000_000_000) × Valid m.date × ValidTime m.time }
     ensures { result ≡ seconds_of m }
 {
-    let date = m.date;
-    let time = m.time;
-    day_of_date(date) * 86400 + second_of_day(time) as i64
+    day_of_date(m.date) * DAY_SECS as i64 + second_of_day(m.time) as i64
 }
 
 // The count of a moment over an epoch, where the year is so near that an i64 holds the moment's seconds; over an epoch within ±2^62 their difference fits.
-pub fn near_to_secs(m: Moment, epoch: i64) -> Checked
+pub fn near_to_secs(m: Moment, epoch: i64) -> Option<i64>
     requires { (nat_abs m.date.year ≤ 10_000_000_000) × Valid m.date × ValidTime m.time }
     ensures { result ≡ checked (seconds_of m -ℤ epoch) }
 {
     let secs = secs_from_1970(m);
-    if -4611686018427387904 <= epoch && epoch <= 4611686018427387904 {
-        return Checked::Exact(secs - epoch);
+    if -NEAR_EPOCHS <= epoch && epoch <= NEAR_EPOCHS {
+        return Some(secs - epoch);
     }
-    checked_sub(secs, epoch)
+    secs.checked_sub(epoch)
 }
 
 // The count of a moment over an epoch, decided on the exact sum: the moment's own seconds need not fit.
-pub fn date_time_to_secs(m: Moment, epoch: i64) -> Checked
+pub fn date_time_to_secs(m: Moment, epoch: i64) -> Option<i64>
     requires { (nat_abs m.date.year ≤ 1_000_000_000_000) × Valid m.date × ValidTime m.time }
     ensures { result ≡ checked (seconds_of m -ℤ epoch) }
 {
-    let date = m.date;
-    let year = date.year;
-    if -10000000000 <= year && year <= 10000000000 {
+    let year = m.date.year;
+    if -NEAR_YEARS <= year && year <= NEAR_YEARS {
         return near_to_secs(m, epoch);
     }
-    let time = m.time;
     let from_1970 = Parts {
-        quotient: day_of_date(date),
-        rest: second_of_day(time),
+        quotient: day_of_date(m.date),
+        rest: second_of_day(m.time),
     };
-    floor_join(
-        sub_parts(from_1970, floor_split(epoch, 86400), 86400),
-        86400,
-    )
+    let difference = sub_parts(from_1970, floor_split(epoch, DAY_SECS), DAY_SECS);
+    floor_join(difference, DAY_SECS)
 }

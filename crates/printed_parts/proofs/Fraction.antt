@@ -1,15 +1,17 @@
 -- The end of a row of digits: zeros left out, or digits cut off.
 use mathlib.Core.Path.{◌≡◌, refl, sym, ap, ◌∙◌}
-use mathlib.Core.Bool.{cond}
 use mathlib.Core.List.{List, [], ◌∷◌, ◌++◌}
-use Prim.Native.Nat.{ℕ, zero, suc, ◌+◌, ◌-◌, ◌*◌, ◌/◌, ◌%◌, ◌^◌, ◌<◌, ◌≤◌}
+use Prim.Native.Nat.{ℕ, zero, suc, ◌+◌, ◌-◌, ◌*◌, ◌/◌, ◌%◌, ◌^◌, ◌<◌, ◌≤◌, min}
 use native.Mathlib.Nat.{pow-suc, pow-zero, add-suc, add-zero, mul-one, mul_assoc}
 use native.Mathlib.Numerals.{sub-one}
 use native.Mathlib.Omega.{arith}
 use lib.Dec.{ltb}
 use lib.ListN.{length, take, length-append}
+use Rattle.std.proofs.lemmas.List.{take_min}
 use lib.Seq.{take-append-le, take_all}
 use borrow.Author.Tests.{ne_eqb, lt-ltb}
+use Rattle.std.specs.Bool.{then_some}
+use Rattle.std.specs.List.{cons_option}
 use Rattle.digits.specs.Digits.{digits}
 use Rattle.digits.proofs.Decimal.{digits_length}
 use Rattle.printed_parts.specs.Text.{point, unless_last, trim, pointed}
@@ -52,11 +54,14 @@ unfolding digits
 take_down k zero n h = absurd (omega arith)
 take_down k (suc w) n h = rw sub-one (take-append-le k (digits w (n / 10)) _ (rw digits_length (omega arith)))
 
+pub take_nine : (k n : ℕ) → take (min k 9) (digits 9 n) ≡ take k (digits 9 n)
+take_nine k n = let e = take_min k (digits 9 n) in rw (digits_length 9 n) at e
+
 pub take_stop : (k w n : ℕ) → w ≤ k → take k (digits w n) ≡ digits w n
 take_stop k w n h = take_all k (digits w n) (rw digits_length h)
 
 -- digits stand behind a point if there are any
-pub point_first : (w n : ℕ) → cond (ltb 0 w) (point ∷ []) [] ++ digits w n ≡ pointed (digits w n)
+pub point_first : (w n : ℕ) → cons_option (then_some (ltb 0 w) point) (digits w n) ≡ pointed (digits w n)
 unfolding digits
 point_first zero n = refl
 point_first (suc w) n = rw (lt-ltb 0 (suc w) (omega arith)) (go (digits (suc w) n) (omega (arith, digits_length (suc w) n)))

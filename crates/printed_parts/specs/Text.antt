@@ -1,9 +1,7 @@
 -- A year and a fraction, written: document 01, "How a stamp is written". A byte is a number, and that of `0` is 48.
-use Rattle.std.specs.Prelude.{cond, List, [], ◌∷◌, ◌++◌, ℕ, eqb, ℤ, pos, nat_abs, take}
+use Rattle.std.specs.Prelude.{cond, List, [], ◌∷◌, ◌++◌, ℕ, eqb, ℤ, pos, nat_abs, take, Option, Some, None}
 use Rattle.std.specs.Int.Signed.{lt_z}
 use Rattle.digits.specs.Digits.{digits, width}
-use Rattle.printed_parts.specs.declared.Precision.{Precision}
-use Rattle.printed_parts.specs.declared.Precision.TheVariants.{Default, Digits}
 
 -- the bytes `-` and `.`
 abbrev pub dash : ℕ
@@ -32,6 +30,6 @@ pointed [] = []
 pointed (x ∷ s) = point ∷ x ∷ s
 
 -- n nanoseconds: their nine digits without the zeros at the end, or the first k of the nine
-unfoldable pub fraction_text : Precision → ℕ → List ℕ
-fraction_text Default n = pointed (trim (digits 9 n))
-fraction_text (Digits k) n = pointed (take k (digits 9 n))
+unfoldable pub fraction_text : Option ℕ → ℕ → List ℕ
+fraction_text None n = pointed (trim (digits 9 n))
+fraction_text (Some k) n = pointed (take k (digits 9 n))

@@ -8,8 +8,8 @@ use lib.ListN.{length, take, drop}
 use borrow.Author.Tests.{lt-ltb, le-ltb}
 use Rattle.errors.specs.Refusals.{gives, refuses, refusal, of_print}
 use Rattle.errors.proofs.One.{print_one}
-use Rattle.printer.specs.declared.Printed.{Printed}
-use Rattle.printer.specs.declared.Printed.TheVariants.{Length, Refused}
+use Rattle.errors.specs.declared.PrintError.{PrintError}
+use Rattle.std.specs.Prelude.{Result, Ok, Err}
 use Rattle.printer.specs.Lent.{said, by_room, answer, line_after}
 
 module _ (s : List ℕ) (at : ℕ) (text : List ℕ) where
@@ -32,8 +32,8 @@ module _ (s : List ℕ) (at : ℕ) (text : List ℕ) where
       let b = le-ltb (length s - at) (length text) k in
       (rw (a, b), rw (a, b))
 
-pub said_one : (a b : Printed) → said a ≡ said b → a ≡ b
-said_one (Length m) (Length n) e = cc
-said_one (Length m) (Refused f) e = let z : ◌≡◌ {A = ℕ} 0 1 = cc in absurd (omega arith)
-said_one (Refused f) (Length n) e = let z : ◌≡◌ {A = ℕ} 0 1 = cc in absurd (omega arith)
-said_one (Refused f) (Refused g) e = let h : of_print f ≡ of_print g = cc in ap Refused (print_one f g h)
+pub said_one : (a b : Result ℕ PrintError) → said a ≡ said b → a ≡ b
+said_one (Ok m) (Ok n) e = cc
+said_one (Ok m) (Err f) e = let z : ◌≡◌ {A = ℕ} 0 1 = cc in absurd (omega arith)
+said_one (Err f) (Ok n) e = let z : ◌≡◌ {A = ℕ} 0 1 = cc in absurd (omega arith)
+said_one (Err f) (Err g) e = let h : of_print f ≡ of_print g = cc in ap Err (print_one f g h)

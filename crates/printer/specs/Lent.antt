@@ -1,13 +1,12 @@
 -- What printing answers, and what the line is then: document 01, "When the box says no", with document 02, ask 11.
-use Rattle.std.specs.Prelude.{cond, List, [], ◌∷◌, ◌++◌, ℕ, ◌+◌, ◌-◌, ltb, pos, length, take, drop}
+use Rattle.std.specs.Prelude.{cond, List, [], ◌∷◌, ◌++◌, ℕ, ◌+◌, ◌-◌, ltb, pos, length, take, drop, Result, Ok, Err}
 use Rattle.errors.specs.Refusals.{Outcome, gives, refuses, refusal, of_print}
-use Rattle.printer.specs.declared.Printed.{Printed}
-use Rattle.printer.specs.declared.Printed.TheVariants.{Length, Refused}
+use Rattle.errors.specs.declared.PrintError.{PrintError}
 
 -- an answer by the number of its bytes, or by its refusal
-abbrev pub said : Printed → Outcome ℕ
-said (Length n) = gives n
-said (Refused e) = refuses (of_print e)
+abbrev pub said : Result ℕ PrintError → Outcome ℕ
+said (Ok n) = gives n
+said (Err e) = refuses (of_print e)
 
 -- one of three, for a text that is to stand in the line s from the place `at` on: the place is beyond the line's length;
 -- the text is longer than what is left; there is room

@@ -2,13 +2,12 @@
 ghost use Rattle.std.specs.Prelude.{◌≡◌, ◌^◌, ◌<◌};
 ghost use Rattle.stages.specs.Text.{parsed};
 
-use decimals::Number;
 use errors::ParseDateTimeError;
 use fields::Delimiter;
-use stages::{Parsed, is_usual, parse_from_month, parse_usual, skip_sign, with_sign};
+use stages::{DateTime, is_usual, parse_from_month, parse_usual, skip_sign, with_sign};
 
 // The size of the year is at most limit.
-pub(crate) fn parse_date_time(text: &[u8], limit: u64) -> Parsed
+pub(crate) fn parse_date_time(text: &[u8], limit: u64) -> Result<DateTime, ParseDateTimeError>
     requires { limit < 2 ^ 63 }
     ensures { result ≡ parsed limit text.now }
 {
@@ -19,13 +18,13 @@ pub(crate) fn parse_date_time(text: &[u8], limit: u64) -> Parsed
     let text = skip_sign(text);
     let n = fields::find(text, Delimiter::Hyphen);
     if text.len() <= n {
-        return Parsed::Refused(ParseDateTimeError::MissingField);
+        return Err(ParseDateTimeError::MissingField);
     }
     if n < 4 {
-        return Parsed::Refused(ParseDateTimeError::InvalidFieldWidth);
+        return Err(ParseDateTimeError::InvalidFieldWidth);
     }
-    let Number::Value(size) = decimals::parse_number(&text[..n], limit) else {
-        return Parsed::Refused(ParseDateTimeError::InvalidFieldValue);
+    let Some(size) = decimals::parse_number(&text[..n], limit) else {
+        return Err(ParseDateTimeError::InvalidFieldValue);
     };
     let year = with_sign(negative, size);
     parse_from_month(year, decimals::skip(text, n + 1))

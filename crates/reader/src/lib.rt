@@ -4,4 +4,4 @@
 mod date_time; // the whole text
 mod stamp; // the timestamp
 
-pub use stamp::{ReadAnswer, from_str};
+pub use stamp::from_str;

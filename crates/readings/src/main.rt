@@ -2,10 +2,9 @@
 #![tactic(auto)]
 
 use answers::put_refusal;
-use counts::{DateTimeAnswer, Duration, Epoch, LeapOffset, TaiTime, TimeAnswer, UnixSeconds};
+use counts::{Duration, Epoch, LeapOffset, TaiTime, UnixSeconds};
 use errors::Refusal;
-use printer::{Precision, Printed};
-use reader::ReadAnswer;
+use texts::Writer;
 
 fn write(rt: &impl Print, text: &[u8]) {
     let _ = rt.write_all(text);
@@ -19,35 +18,37 @@ fn write_front(rt: &impl Print, line: &[u8], n: usize) {
 
 fn refused(rt: &impl Print, r: Refusal) {
     let mut line = [0u8; 128];
-    let n = put_refusal(&mut line, r);
+    let mut writer = Writer::new(&mut line);
+    put_refusal(&mut writer, r);
+    let n = writer.at;
     write_front(rt, &line, n);
     write(rt, b"\n");
 }
 
-fn show_in(rt: &impl Print, t: TaiTime, epoch: Epoch, precision: Precision, line: &mut [u8]) {
+fn show_in(rt: &impl Print, t: TaiTime, epoch: Epoch, precision: Option<usize>, line: &mut [u8]) {
     match printer::display(t, epoch, precision, line, 0) {
-        Printed::Length(n) => {
+        Ok(n) => {
             write_front(rt, line, n);
             write(rt, b"\n");
         }
-        Printed::Refused(e) => refused(rt, e.refusal()),
+        Err(e) => refused(rt, e.into()),
     }
 }
 
-fn show_over(rt: &impl Print, t: TaiTime, epoch: Epoch, precision: Precision) {
+fn show_over(rt: &impl Print, t: TaiTime, epoch: Epoch, precision: Option<usize>) {
     let mut line = [0u8; 40];
     show_in(rt, t, epoch, precision, &mut line);
 }
 
 // A timestamp as its text over epoch 0, which tells its seconds and nanoseconds.
-fn show(rt: &impl Print, t: TaiTime, precision: Precision) {
+fn show(rt: &impl Print, t: TaiTime, precision: Option<usize>) {
     show_over(rt, t, Epoch(0), precision);
 }
 
-fn told(rt: &impl Print, answer: TimeAnswer) {
+fn told<E: Into<Refusal>>(rt: &impl Print, answer: Result<TaiTime, E>) {
     match answer {
-        TimeAnswer::At(t) => show(rt, t, Precision::Default),
-        TimeAnswer::Refused(e) => refused(rt, e.refusal()),
+        Ok(t) => show(rt, t, None),
+        Err(e) => refused(rt, e.into()),
     }
 }
 
@@ -66,62 +67,40 @@ fn moved(rt: &impl Print, old: i64, new: i64, secs: i64) {
 }
 
 fn read(rt: &impl Print, text: &[u8]) {
-    match reader::from_str(text, Epoch(0)) {
-        ReadAnswer::At(t) => show(rt, t, Precision::Default),
-        ReadAnswer::Refused(e) => refused(rt, e.refusal()),
-    }
-}
-
-// Year -2147483648 by fields.
-fn earliest_year(rt: &impl Print) {
-    match TaiTime::try_from_date_time(Epoch(0), -2147483648, 1, 1, 0, 0, 0, 0) {
-        DateTimeAnswer::At(t) => show(rt, t, Precision::Default),
-        DateTimeAnswer::Refused(e) => refused(rt, e.refusal(false)),
-    }
+    told(rt, reader::from_str(text, Epoch(0)));
 }
 
 // A line with one byte fewer than the text has, and one with just as many.
 fn room(rt: &impl Print) {
     let mut fewer = [0u8; 18];
-    show_in(rt, TaiTime::EPOCH, Epoch(0), Precision::Default, &mut fewer);
+    show_in(rt, TaiTime::EPOCH, Epoch(0), None, &mut fewer);
     let mut enough = [0u8; 19];
-    show_in(
-        rt,
-        TaiTime::EPOCH,
-        Epoch(0),
-        Precision::Default,
-        &mut enough,
-    );
+    show_in(rt, TaiTime::EPOCH, Epoch(0), None, &mut enough);
 }
 
 // The ends, that the longest duration lies between them, and the start of each named epoch.
 fn constants(rt: &impl Print) {
-    show(rt, TaiTime::MIN, Precision::Default);
-    show(rt, TaiTime::MAX, Precision::Default);
+    show(rt, TaiTime::MIN, None);
+    show(rt, TaiTime::MAX, None);
     told(
         rt,
         TaiTime::MIN.checked_add(Duration {
-            secs: 18446744073709551615,
-            nanos: 999999999,
+            secs: u64::MAX,
+            nanos: 999_999_999,
         }),
     );
-    show_over(
-        rt,
-        TaiTime::EPOCH,
-        Epoch::MONOTONIC_TIME,
-        Precision::Default,
-    );
-    show_over(rt, TaiTime::EPOCH, Epoch::GPS_TIME, Precision::Default);
-    show_over(rt, TaiTime::EPOCH, Epoch::GST_TIME, Precision::Default);
-    show_over(rt, TaiTime::EPOCH, Epoch::BDT_TIME, Precision::Default);
-    show_over(rt, TaiTime::EPOCH, Epoch::TAI_1958_TIME, Precision::Default);
-    show_over(rt, TaiTime::EPOCH, Epoch::TAI_1972_TIME, Precision::Default);
+    show_over(rt, TaiTime::EPOCH, Epoch::MONOTONIC_TIME, None);
+    show_over(rt, TaiTime::EPOCH, Epoch::GPS_TIME, None);
+    show_over(rt, TaiTime::EPOCH, Epoch::GST_TIME, None);
+    show_over(rt, TaiTime::EPOCH, Epoch::BDT_TIME, None);
+    show_over(rt, TaiTime::EPOCH, Epoch::TAI_1958_TIME, None);
+    show_over(rt, TaiTime::EPOCH, Epoch::TAI_1972_TIME, None);
 }
 
 fn main(rt: HostRuntime) {
-    unix(&rt, 0, 4294967295, 0);
-    unix(&rt, 9223372036854775807, 1000000000, -1);
-    moved(&rt, -9223372036854775808, 1, 5);
+    unix(&rt, 0, u32::MAX, 0);
+    unix(&rt, i64::MAX, 1_000_000_000, -1);
+    moved(&rt, i64::MIN, 1, 5);
     read(&rt, b"2020-+5-01T00:00:00");
     read(&rt, b"++2020-01-01 00:00:00");
     read(&rt, b"");
@@ -134,16 +113,20 @@ fn main(rt: HostRuntime) {
     read(&rt, b"2020-01-01 00:00:00.0000000001x");
     read(&rt, b"2020-01-01 00:00:60");
     read(&rt, b"2147483648-01-01 00:00:00");
-    earliest_year(&rt);
+    // Year -2147483648 by fields.
+    told(
+        &rt,
+        TaiTime::try_from_date_time(Epoch(0), i32::MIN, 1, 1, 0, 0, 0, 0),
+    );
     read(&rt, b"-2147483648-01-01 00:00:00");
     let fraction = TaiTime {
         secs: 0,
-        nanos: 123450000,
+        nanos: 123_450_000,
     };
-    show(&rt, fraction, Precision::Default);
-    show(&rt, fraction, Precision::Digits(2));
-    show(&rt, fraction, Precision::Digits(20));
-    show(&rt, TaiTime::EPOCH, Precision::Digits(3));
+    show(&rt, fraction, None);
+    show(&rt, fraction, Some(2));
+    show(&rt, fraction, Some(20));
+    show(&rt, TaiTime::EPOCH, Some(3));
     room(&rt);
     constants(&rt);
 }

@@ -1,11 +1,9 @@
 -- How an outcome crosses to C and Rust: the refusal's number, or -1 where there is none, and beside it what is given.
-use Rattle.std.specs.Prelude.{List, ℕ, zero, suc, ℤ, pos, negsuc, nat_abs, get_or}
+use Rattle.std.specs.Prelude.{Option, Some, None, List, ℕ, zero, suc, ℤ, pos, negsuc, nat_abs, get_or}
 use Rattle.errors.specs.Refusals.{Refusal, Outcome, gives, refuses, refuses_in_range_error}
-use Rattle.durations.specs.declared.Ordering.{Ordering}
-use Rattle.durations.specs.declared.Ordering.TheVariants.{Less, Equal, Greater}
+use Rattle.std.specs.declared.cmp.Ordering.{Ordering}
+use Rattle.std.specs.declared.cmp.Ordering.TheVariants.{Less, Equal, Greater}
 use Rattle.moments.specs.declared.Moment.{Moment}
-use Rattle.printed_parts.specs.declared.Precision.{Precision}
-use Rattle.printed_parts.specs.declared.Precision.TheVariants.{Default, Digits}
 use Rattle.records_box.specs.declared.TimeResult.{TimeResult}
 use Rattle.records_box.specs.declared.UnixResult.{UnixResult}
 use Rattle.records_box.specs.declared.DurationResult.{DurationResult}
@@ -69,10 +67,10 @@ moment_result m =
     record { year = m.date.year; month = m.date.month; day = m.date.day; hour = m.time.hour; minute = m.time.minute; second = m.time.second }
 
 -- a precision is absent where the flag is 0
-abbrev pub precision_of : ℤ → ℕ → Precision
-precision_of (pos zero) digits = Default
-precision_of (pos (suc n)) digits = Digits digits
-precision_of (negsuc n) digits = Digits digits
+abbrev pub precision_of : ℤ → ℕ → Option ℕ
+precision_of (pos zero) digits = None
+precision_of (pos (suc n)) digits = Some digits
+precision_of (negsuc n) digits = Some digits
 
 -- what printing answers, beside the line as it is then
 abbrev pub line_result : Outcome ℕ × List ℕ → LengthResult × List ℕ

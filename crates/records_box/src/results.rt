@@ -6,9 +6,9 @@ ghost use Rattle.counts.specs.Said.{said_time};
 ghost use Rattle.records_box.specs.Results.{time_result, ordering_result, length_result, precision_of};
 
 use crate::{LengthResult, OrderingResult, TimeResult};
-use counts::{Ordering, TimeAnswer};
-use errors::Refusal;
-use printer::Precision;
+use counts::TaiTime;
+use errors::{CountError, Refusal};
+use std::cmp::Ordering;
 
 pub fn time(secs: i64, nanos: u32) -> TimeResult
     ensures { result ≡ time_result (gives (secs, nanos)) }
@@ -26,20 +26,20 @@ pub fn refused(r: Refusal) -> TimeResult
     ensures { result ≡ time_result (told r) }
 {
     TimeResult {
-        refusal: r.number as i32,
-        in_range_error: r.in_range_error as i32,
-        value: if r.valued { r.value } else { 0 },
+        refusal: r.number() as i32,
+        in_range_error: r.in_range_error() as i32,
+        value: r.value().unwrap_or(0),
         nanos: 0,
         secs: 0,
     }
 }
 
-pub fn time_result(a: TimeAnswer) -> TimeResult
-    ensures { result ≡ time_result (said_time a) }
+pub fn time_result(answer: Result<TaiTime, CountError>) -> TimeResult
+    ensures { result ≡ time_result (said_time answer) }
 {
-    match a {
-        TimeAnswer::At(t) => time(t.secs, t.nanos),
-        TimeAnswer::Refused(e) => refused(e.refusal()),
+    match answer {
+        Ok(t) => time(t.secs, t.nanos),
+        Err(e) => refused(e.into()),
     }
 }
 
@@ -57,29 +57,19 @@ pub fn length_refused(r: Refusal) -> LengthResult
 pub fn ordering_result(o: Ordering) -> OrderingResult
     ensures { result ≡ ordering_result (gives o) }
 {
-    match o {
-        Ordering::Less => OrderingResult {
-            refusal: -1,
-            ordering: -1,
-        },
-        Ordering::Equal => OrderingResult {
-            refusal: -1,
-            ordering: 0,
-        },
-        Ordering::Greater => OrderingResult {
-            refusal: -1,
-            ordering: 1,
+    OrderingResult {
+        refusal: -1,
+        ordering: match o {
+            Ordering::Less => -1,
+            Ordering::Equal => 0,
+            Ordering::Greater => 1,
         },
     }
 }
 
 // given is 0 where the precision is absent.
-pub fn precision_of(given: i32, digits: usize) -> Precision
+pub fn precision_of(given: i32, digits: usize) -> Option<usize>
     ensures { result ≡ precision_of given digits }
 {
-    if given == 0 {
-        Precision::Default
-    } else {
-        Precision::Digits(digits)
-    }
+    if given == 0 { None } else { Some(digits) }
 }

@@ -8,16 +8,14 @@ ghost use Rattle.records_box.specs.Results.{time_result, moment_result, precisio
 use crate::results::{length_refused, precision_of, refused, time};
 use crate::{LengthResult, MomentResult, TimeResult};
 use counts::{Epoch, TaiTime};
-use printer::Printed;
-use reader::ReadAnswer;
 
 #[unsafe(no_mangle)]
 pub extern "C" fn tai_from_str(epoch: i64, text: &[u8]) -> TimeResult
     ensures { result ≡ time_result (read_text year_limit epoch text.now) }
 {
     match reader::from_str(text, Epoch(epoch)) {
-        ReadAnswer::At(t) => time(t.secs, t.nanos),
-        ReadAnswer::Refused(e) => refused(e.refusal()),
+        Ok(t) => time(t.secs, t.nanos),
+        Err(e) => refused(e.into()),
     }
 }
 
@@ -35,12 +33,12 @@ pub extern "C" fn tai_display(
 {
     let t = TaiTime { secs, nanos };
     match printer::display(t, Epoch(epoch), precision_of(given, digits), line, at) {
-        Printed::Length(length) => LengthResult {
+        Ok(length) => LengthResult {
             refusal: -1,
             wanted: 0,
             length,
         },
-        Printed::Refused(e) => length_refused(e.refusal()),
+        Err(e) => length_refused(e.into()),
     }
 }
 

@@ -5,10 +5,8 @@ ghost use Rattle.records_box.specs.Results.{time_result, unix_result, duration_r
 
 use crate::results::{ordering_result, refused, time, time_result};
 use crate::{DurationResult, OrderingResult, TimeResult, UnixResult};
-use counts::{
-    DateTimeAnswer, Duration, DurationAnswer, Epoch, LeapOffset, OrderingAnswer, TaiTime,
-    UnixAnswer, UnixSeconds,
-};
+use counts::{Duration, Epoch, LeapOffset, TaiTime, UnixSeconds};
+use errors::Refusal;
 
 #[unsafe(no_mangle)]
 pub extern "C" fn tai_new(secs: i64, nanos: u32) -> TimeResult
@@ -31,8 +29,8 @@ pub extern "C" fn tai_try_from_date_time(
     ensures { result ≡ time_result (from_date_time epoch year month day hour min sec nano) }
 {
     match TaiTime::try_from_date_time(Epoch(epoch), year, month, day, hour, min, sec, nano) {
-        DateTimeAnswer::At(t) => time(t.secs, t.nanos),
-        DateTimeAnswer::Refused(e) => refused(e.refusal(false)),
+        Ok(t) => time(t.secs, t.nanos),
+        Err(e) => refused(e.into()),
     }
 }
 
@@ -59,12 +57,12 @@ pub extern "C" fn tai_as_unix_secs(epoch: i64, secs: i64, nanos: u32, leap: i64)
 {
     let t = TaiTime { secs, nanos };
     match t.as_unix_secs(Epoch(epoch), LeapOffset(leap)) {
-        UnixAnswer::At(u) => UnixResult {
+        Ok(u) => UnixResult {
             refusal: -1,
             secs: u.0,
         },
-        UnixAnswer::Refused(e) => UnixResult {
-            refusal: e.refusal().number as i32,
+        Err(e) => UnixResult {
+            refusal: Refusal::from(e).number() as i32,
             secs: 0,
         },
     }
@@ -114,13 +112,13 @@ pub extern "C" fn tai_checked_duration_since(
         secs: osecs,
         nanos: onanos,
     }) {
-        DurationAnswer::Lasts(d) => DurationResult {
+        Ok(d) => DurationResult {
             refusal: -1,
             nanos: d.nanos,
             secs: d.secs,
         },
-        DurationAnswer::Refused(e) => DurationResult {
-            refusal: e.refusal().number as i32,
+        Err(e) => DurationResult {
+            refusal: Refusal::from(e).number() as i32,
             nanos: 0,
             secs: 0,
         },
@@ -136,9 +134,9 @@ pub extern "C" fn tai_cmp(secs: i64, nanos: u32, osecs: i64, onanos: u32) -> Ord
         secs: osecs,
         nanos: onanos,
     }) {
-        OrderingAnswer::Is(o) => ordering_result(o),
-        OrderingAnswer::Refused(e) => OrderingResult {
-            refusal: e.refusal().number as i32,
+        Ok(o) => ordering_result(o),
+        Err(e) => OrderingResult {
+            refusal: Refusal::from(e).number() as i32,
             ordering: 0,
         },
     }

@@ -1,14 +1,11 @@
 -- What each answer says, by document 01's numbers and values. A timestamp is said as (seconds, nanoseconds).
-use Rattle.std.specs.Prelude.{ℕ, ℤ}
-use Rattle.errors.specs.Refusals.{Outcome, gives, refuses, of_count}
-use Rattle.seconds.specs.declared.Counted.{Counted}
-use Rattle.seconds.specs.declared.UnixAnswer.{UnixAnswer}
-use Rattle.seconds.specs.declared.UnixAnswer.TheVariants as Unix
+use Rattle.std.specs.Prelude.{Result, ℕ, ℤ}
+use Rattle.errors.specs.Refusals.{Outcome, says, of_count}
+use Rattle.errors.specs.declared.CountError.{CountError}
+use Rattle.seconds.specs.declared.UnixSeconds.{UnixSeconds}
 
-abbrev pub said_counted : Counted → Outcome (ℤ × ℕ)
-said_counted (Counted.At secs nanos) = gives (secs, nanos)
-said_counted (Counted.Refused e) = refuses (of_count e)
+abbrev pub said_counted : Result (ℤ × ℕ) CountError → Outcome (ℤ × ℕ)
+said_counted r = says (λ t. t) of_count r
 
-abbrev pub said_unix : UnixAnswer → Outcome ℤ
-said_unix (Unix.At u) = gives u.0
-said_unix (Unix.Refused e) = refuses (of_count e)
+abbrev pub said_unix : Result UnixSeconds CountError → Outcome ℤ
+said_unix r = says (λ u. u.0) of_count r

@@ -1,5 +1,5 @@
 -- A text of the usual shape: its year and its fields, read at their places.
-use mathlib.Core.Path.{◌≡◌, refl, sym, ap, ◌∙◌}
+use mathlib.Core.Path.{◌≡◌, sym, ap, ◌∙◌}
 use mathlib.Core.Bool.{true, cond, ◌&&◌, ◌||◌, and-eq-true_iff}
 use mathlib.Core.List.{List, [], ◌∷◌}
 use Prim.Native.Nat.{ℕ, zero, suc, ◌+◌, ◌-◌, ◌*◌, ◌<◌, ◌≤◌}
@@ -18,14 +18,12 @@ use Rattle.fields.specs.Fields.{is_delimiter, width, two_digits, fraction, secon
 use Rattle.fields.specs.declared.Delimiter.{Delimiter}
 use Rattle.fields.specs.declared.Delimiter.TheVariants.{Hyphen, SpaceOrT, Colon, Point}
 use Rattle.fields.specs.declared.Field.TheVariants as Field
-use Rattle.fields.specs.declared.Seconds.TheVariants as Seconds
+use Rattle.std.specs.Prelude.{Ok}
 use Rattle.decimals.proofs.Values.{Digit, is_digit_lem}
 use Rattle.fields.proofs.Pairs.{other, pair_last, pair_got}
 use Rattle.fields.proofs.Behind.{behind_two}
 use Rattle.stages.specs.Usual.{usual_shape, fits_byte, fits, is_usual}
-use Rattle.stages.specs.Text.{field, on_seconds, from_month, from_year, without_sign, parsed}
-use Rattle.stages.specs.declared.Parsed.{Parsed}
-use Rattle.stages.specs.declared.Parsed.TheVariants.{Fields}
+use Rattle.stages.specs.Text.{Parsed, field, on_seconds, from_month, from_year, without_sign, parsed}
 use Rattle.stages.proofs.Stages.{read_on}
 
 -- ---- what fits its place
@@ -77,26 +75,41 @@ year limit a b c d e s ha hb hc hd he l =
     simp (plus, minus, other Hyphen ha, other Hyphen hb, other Hyphen hc, other Hyphen hd, he, long, ha.is, hb.is, hc.is, hd.is, zero-add, n, v)
 
 -- ---- the fields, in their places
+-- two digits stand there
+abbrev pub Two : List ℕ → ℕ → Type 0
+Two s i = (is_digit (get_or s i 0) ≡ true) × (is_digit (get_or s (i + 1) 0) ≡ true)
+
 module _ (s : List ℕ) (i : ℕ) where
   pair_at_lem : pair_at (drop i s) 0 ≡ pair_at s i
   unfolding pair_at
   pair_at_lem = rw (get_or-drop i s 0 0, get_or-drop i s 1 0, add-zero)
 
-  module _ (two : (is_digit (get_or s i 0) ≡ true) × (is_digit (get_or s (i + 1) 0) ≡ true)) where
-    digit_first : Digit (get_or (drop i s) 0 0)
-    digit_first = rw (get_or-drop, add-zero) (is_digit_lem two.0)
+  module _ (two : Two s i) where
+    digit_first : is_digit (get_or (drop i s) 0 0) ≡ true
+    digit_first = rw (get_or-drop, add-zero) two.0
 
-    digit_second : Digit (get_or (drop i s) 1 0)
-    digit_second = rw get_or-drop (is_digit_lem two.1)
+    digit_second : is_digit (get_or (drop i s) 1 0) ≡ true
+    digit_second = rw get_or-drop two.1
 
-    last_at : (d : Delimiter) → length s ≡ i + 2 → two_digits d (drop i s) ≡ Field.Last (pair_at s i)
+    last_at : (d : Delimiter) → length s ≡ i + 2 → two_digits d (drop i s) ≡ Ok (Field.Last (pair_at s i))
     last_at d e = rw (← pair_at_lem) (sym (pair_last d (drop i s) (rw length-drop (omega arith)) digit_first digit_second))
 
-    got_at : (d : Delimiter) → i + 2 < length s → is_delimiter d (get_or s (i + 2) 0) ≡ true → two_digits d (drop i s) ≡ Field.Got (pair_at s i)
+    got_at : (d : Delimiter) → i + 2 < length s → is_delimiter d (get_or s (i + 2) 0) ≡ true → two_digits d (drop i s) ≡ Ok (Field.Got (pair_at s i))
     got_at d h e = rw (← pair_at_lem) (sym (pair_got d (drop i s) (rw length-drop (omega arith)) digit_first digit_second (rw get_or-drop e)))
 
     on_from : (d : Delimiter) → i + 2 < length s → is_delimiter d (get_or s (i + 2) 0) ≡ true → (next : ℕ → List ℕ → Parsed) → field d (drop i s) next ≡ next (pair_at s i) (drop (i + 3) s)
-    on_from d h e = read_on d (drop i s) (sym (got_at d h e)) refl (sym (drop-drop 3 i s))
+    on_from d h e next = read_on d (drop i s) (got_at d h e) next ∙ rw drop-drop
+
+-- the digits of a text of the usual shape
+pub record Pairs (s : List ℕ) : Type 0 where
+  pub long : 19 ≤ length s
+  pub hundreds : Two s 0
+  pub rest : Two s 2
+  pub month : Two s 5
+  pub day : Two s 8
+  pub hour : Two s 11
+  pub min : Two s 14
+  pub sec : Two s 17
 
 module _ (s : List ℕ) (u : is_usual s ≡ true) where
   shape : (fits usual_shape s ≡ true) × ((eqb (length s) 19 || is_delimiter Point (get_or s 19 0)) ≡ true)
@@ -111,8 +124,18 @@ module _ (s : List ℕ) (u : is_usual s ≡ true) where
   unfolding usual_shape
   usual_at k h = fits_at usual_shape s k shape.0 h
 
-  pub two_at : (i : ℕ) → i + 1 < 19 → (i + 2 ≤ length s) × ((fits_byte (get_or usual_shape i 48) (get_or s i 0) ≡ true) × (fits_byte (get_or usual_shape (i + 1) 48) (get_or s (i + 1) 0) ≡ true))
-  two_at i h = (omega (arith, usual_long), (usual_at i (omega arith), usual_at (i + 1) h))
+  pub pairs : Pairs s
+  unfolding usual_shape fits_byte
+  pairs = record {
+    long = usual_long;
+    hundreds = (usual_at 0 (omega arith), usual_at 1 (omega arith));
+    rest = (usual_at 2 (omega arith), usual_at 3 (omega arith));
+    month = (usual_at 5 (omega arith), usual_at 6 (omega arith));
+    day = (usual_at 8 (omega arith), usual_at 9 (omega arith));
+    hour = (usual_at 11 (omega arith), usual_at 12 (omega arith));
+    min = (usual_at 14 (omega arith), usual_at 15 (omega arith));
+    sec = (usual_at 17 (omega arith), usual_at 18 (omega arith));
+  }
 
   usual_year : (limit : ℕ) → 9999 ≤ limit → parsed limit s ≡ from_month (pos (pair_at s 0 * 100 + pair_at s 2)) (drop 5 s)
   unfolding usual_shape fits_byte is_delimiter pair_at
@@ -123,24 +146,24 @@ module _ (s : List ℕ) (u : is_usual s ≡ true) where
       ap (parsed limit) front ∙ year limit _ _ _ _ _ _ (is_digit_lem (usual_at 0 (omega arith))) (is_digit_lem (usual_at 1 (omega arith))) (is_digit_lem (usual_at 2 (omega arith))) (is_digit_lem (usual_at 3 (omega arith))) (usual_at 4 (omega arith)) l
 
   pub usual_parsed : (limit : ℕ) → 9999 ≤ limit
-      → parsed limit s ≡ on_seconds (seconds (drop 17 s)) (λ sec nano. Fields (record { year = pos (pair_at s 0 * 100 + pair_at s 2); month = pair_at s 5; day = pair_at s 8; hour = pair_at s 11; min = pair_at s 14; sec = sec; nano = nano }))
+      → parsed limit s ≡ on_seconds (seconds (drop 17 s)) (λ sec nano. Ok (record { year = pos (pair_at s 0 * 100 + pair_at s 2); month = pair_at s 5; day = pair_at s 8; hour = pair_at s 11; min = pair_at s 14; sec = sec; nano = nano }))
   unfolding from_month usual_shape fits_byte is_delimiter
   usual_parsed limit l =
       let h = usual_long in
       usual_year limit l ∙ rw (
-        on_from s 5 (two_at 5 (omega arith)).1 Hyphen (omega arith) (usual_at 7 (omega arith)),
-        on_from s 8 (two_at 8 (omega arith)).1 SpaceOrT (omega arith) (usual_at 10 (omega arith)),
-        on_from s 11 (two_at 11 (omega arith)).1 Colon (omega arith) (usual_at 13 (omega arith)),
-        on_from s 14 (two_at 14 (omega arith)).1 Colon (omega arith) (usual_at 16 (omega arith)),
+        on_from s 5 pairs.month Hyphen (omega arith) (usual_at 7 (omega arith)),
+        on_from s 8 pairs.day SpaceOrT (omega arith) (usual_at 10 (omega arith)),
+        on_from s 11 pairs.hour Colon (omega arith) (usual_at 13 (omega arith)),
+        on_from s 14 pairs.min Colon (omega arith) (usual_at 16 (omega arith)),
       )
 
-  pub seconds_last : length s ≡ 19 → seconds (drop 17 s) ≡ Seconds.Got (pair_at s 17) 0
+  pub seconds_last : length s ≡ 19 → seconds (drop 17 s) ≡ Ok (record { sec = pair_at s 17; nano = 0 })
   unfolding seconds usual_shape fits_byte
-  seconds_last e = rw (last_at s 17 (two_at 17 (omega arith)).1 Point e)
+  seconds_last e = rw (last_at s 17 pairs.sec Point e)
 
   pub seconds_more : (length s ≡ 19 → ⊥) → seconds (drop 17 s) ≡ fraction (pair_at s 17) (drop 20 s)
   unfolding seconds usual_shape fits_byte
   seconds_more e =
       let h = usual_long in
-      let g = got_at s 17 (two_at 17 (omega arith)).1 Point (omega arith) (rw (ne_eqb (length s) 19 e) at shape.1) in
+      let g = got_at s 17 pairs.sec Point (omega arith) (rw (ne_eqb (length s) 19 e) at shape.1) in
       rw (behind_two Point (drop 17 s) g, drop-drop 3 17 s, g)

@@ -1,7 +1,7 @@
 // The arguments, standard input and standard output of the program `tai`.
 #![tactic(auto)]
 
-ghost use Rattle.std.specs.Prelude.{◌+◌, ◌≤◌, ◌<◌, length};
+ghost use Rattle.std.specs.Prelude.{◌+◌, ◌≤◌, ◌<◌, length, IfOk};
 
 use std::env::{Env, FillError};
 use std::fmt::InlineText;
@@ -30,64 +30,42 @@ pub fn join_arguments(rt: &impl Env, request: &mut [u8]) -> usize
         request[at] = b' ';
         at += 1;
     }
-    if at == 0 {
-        return 0;
-    }
-    at - 1
+    at.saturating_sub(1)
 }
 
-// The first n bytes of out to standard output, and whether it took them; that it did not is told.
-pub fn write(rt: &(impl Print + Eprint), out: &[u8], n: usize) -> bool
-    requires { n ≤ length out.now }
-{
-    match rt.write_all(&out[..n]) {
-        Ok(()) => true,
-        Err(e) => {
-            tell(rt, "tai: standard output", e);
-            false
-        }
-    }
+// What failed, and why.
+#[derive(Drop)]
+pub enum Failure {
+    Output(io::Error),
+    Input(io::Error),
 }
 
-// How many bytes a read brought, none at the input's end, and whether it failed.
-#[derive(Clone, Copy)]
-pub struct Came {
-    pub bytes: usize,
-    pub failed: bool,
+pub fn write(rt: &impl Print, bytes: &[u8]) -> Result<(), Failure> {
+    rt.write_all(bytes).map_err(Failure::Output)
 }
 
-// One read, behind the bytes kept, where there is room for one. That it failed is told.
-pub fn read_behind(rt: &(impl Input + Eprint), input: &mut [u8], kept: usize) -> Came
+// One read, behind the bytes kept, where there is room for one: how many bytes it brought, none at the input's end.
+pub fn read_behind(rt: &impl Input, input: &mut [u8], kept: usize) -> Result<usize, Failure>
     requires { kept < length input.old }
-    ensures { kept + result.bytes ≤ length input.new }
+    ensures { IfOk result (λ bytes. kept + bytes ≤ length input.new) }
 {
     let mut reader = rt.reader();
-    match reader.read(&mut input[kept..]) {
-        Ok(bytes) => Came {
-            bytes,
-            failed: false,
-        },
-        Err(e) => {
-            tell(rt, "tai: standard input", e);
-            Came {
-                bytes: 0,
-                failed: true,
-            }
-        }
-    }
+    reader.read(&mut input[kept..]).map_err(Failure::Input)
 }
 
 // A line on standard error: what failed, and why in the system's words.
-fn tell(rt: &impl Eprint, what: &str, e: io::Error) {
+pub fn tell(rt: &impl Eprint, failure: Failure) {
+    let (what, e) = match failure {
+        Failure::Output(e) => ("output", e),
+        Failure::Input(e) => ("input", e),
+    };
     let text = InlineText::<120>::of(e);
     let why = without_number(text.as_str());
-    let _ = eprintln!(rt; "{what}: {why}");
+    let _ = eprintln!(rt; "tai: standard {what}: {why}");
 }
 
 // The words of an error of the system, behind which its number stands.
 fn without_number(text: &str) -> &str {
-    match text.split_once(" (os error ") {
-        Some((words, _)) => words,
-        None => text,
-    }
+    text.split_once(" (os error ")
+        .map_or(text, |(words, _)| words)
 }

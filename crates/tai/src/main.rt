@@ -6,20 +6,27 @@ mod turns;
 
 use desk::answer;
 use std::env::Env;
-use streams::{has_arguments, join_arguments, write};
+use streams::{Failure, has_arguments, join_arguments, tell, write};
 
-fn answer_arguments(rt: &(impl Env + Print + Eprint), request: &mut [u8], out: &mut [u8]) {
+fn answer_arguments(
+    rt: &(impl Env + Print),
+    request: &mut [u8],
+    out: &mut [u8],
+) -> Result<(), Failure> {
     let n = join_arguments(rt, request);
     let m = answer(&request[..n], out);
-    write(rt, out, m);
+    write(rt, &out[..m])
 }
 
 fn main(rt: HostRuntime) {
     let mut input = [0u8; 131072];
     let mut out = [0u8; 131072];
-    if has_arguments(&rt) {
-        answer_arguments(&rt, &mut input[..65536], &mut out);
+    let answered = if has_arguments(&rt) {
+        answer_arguments(&rt, &mut input[..65536], &mut out)
     } else {
-        input::answer_input(&rt, &mut input, &mut out);
+        input::answer_input(&rt, &mut input, &mut out)
+    };
+    if let Err(failure) = answered {
+        tell(&rt, failure);
     }
 }

@@ -16,8 +16,7 @@ fn answer_line(s: &[u8], within: bool, ended: bool, out: &mut [u8]) -> Answered
             within: line.continues,
         };
     }
-    if line.ready {
-        let length = line.length;
+    if let Some(length) = line.length {
         let written = answer(&s[..length], out);
         if 0 < written {
             return Answered {

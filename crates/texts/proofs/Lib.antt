@@ -1,3 +1,3 @@
 pub mod Puts
-pub mod Alike
 pub mod Hexes
+pub mod Wrotes

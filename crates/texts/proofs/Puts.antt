@@ -1,17 +1,18 @@
 -- Texts written one behind the other, numbers and HEX.
 use mathlib.Core.Path.{◌≡◌, refl, sym, ◌∙◌}
 use mathlib.Core.Bool.{Bool, true, false, cond}
-use mathlib.Core.List.{List, [], ◌∷◌, ◌++◌}
+use mathlib.Core.List.{List, [], ◌∷◌, ◌++◌, append_assoc}
 use Prim.Native.Nat.{ℕ, zero, suc, ◌+◌, ◌*◌, ◌-◌, ◌/◌, ◌%◌, ◌^◌, ◌<◌, ◌≤◌}
-use native.Mathlib.Nat.{zero-add, pow-suc}
+use native.Mathlib.Nat.{pow-suc}
 use native.Mathlib.Omega.{arith}
 use lib.Dec.{ltb}
 use lib.IntN.{ℤ, pos, negsuc}
-use lib.ListN.{length, set, drop, length-append}
-use lib.Seq.{sets-eq}
-use mir.Syntax.{w64}
-use mir.Val.{SFits, of_z}
-use borrow.Author.Tests.{lt-ltb, le-ltb}
+use lib.ListN.{length, length-append}
+use lib.Seq.{sets-eq, drop-drop}
+use Rattle.std.specs.Prelude.{unsigned_abs}
+use Rattle.std.specs.Int.{is_negative}
+use borrow.Rule.Slice.PartMut.{put_mid}
+use borrow.Author.Tests.{ltb-true, lt-ltb, le-ltb}
 use Rattle.digits.proofs.Stores.{sets_append}
 use Rattle.texts.specs.Texts.{in_places, natural, integer, Put}
 use Rattle.texts.specs.Hex.{digit_pairs}
@@ -20,11 +21,12 @@ pub put_on : {s l m : List ℕ} {at r q : ℕ} {text more : List ℕ} → Put s 
 put_on {s} {at = at} {text = text} {more = more} a b =
     record { line = b.line ∙ rw (a.line, a.place) (sym (sets_append s at text more)); place = b.place ∙ rw length-append (omega (arith, a.place)) }
 
+-- a part of a line that a text was copied into
+pub put_part : (s : List ℕ) (at : ℕ) (text : List ℕ) {part : List ℕ} → at + length text ≤ length s → part ≡ text → Put s at text (put_mid at (at + length text - at) s part) (at + length text)
+put_part s at text h e = let k : at + length text - at ≡ length text = omega arith in rw (e, k) (record { line = rw (drop-drop, ← append_assoc) (sym (sets-eq text s at h)); place = refl })
+
 pub put_none : (s : List ℕ) (at : ℕ) → Put s at [] s at
 put_none s at = record { line = refl; place = omega arith }
-
-pub put_one : (s : List ℕ) (at x : ℕ) → Put s at (x ∷ []) (set s at x) (at + 1)
-put_one s at x = record { line = refl; place = omega arith }
 
 -- ---- a number's digits
 fewer : (k n : ℕ) → length (in_places k n) ≤ k
@@ -50,29 +52,19 @@ pub natural_more : (n : ℕ) → n < 2 ^ 64 → 10 ≤ n → (natural n ≡ natu
 unfolding natural in_places
 natural_more n h g = let e = enough 18 (n / 10) (omega arith) in (rw (le-ltb n 10 g, e), rw e (fewer 19 (n / 10)))
 
--- a number off its bits, which are in the upper half if it is below 0
-module _ {b : ℕ} where
-  pub integer_above : (z : ℤ) → SFits w64 z → b ≡ of_z w64 z → b < 2 ^ 63 → integer z ≡ natural b
-  unfolding integer
-  integer_above (pos n) f e h = rw e
-  integer_above (negsuc n) f e h = absurd (omega (arith, f.sfits))
+-- a number by its size
+pub integer_above : (z : ℤ) → is_negative z ≡ false → integer z ≡ natural (unsigned_abs z)
+unfolding integer
+integer_above (pos n) e = refl
+integer_above (negsuc n) e = let k : ◌≡◌ {A = ℕ} 0 1 = cc in absurd (omega arith)
 
-  pub integer_below : (z : ℤ) → SFits w64 z → b ≡ of_z w64 z → 2 ^ 63 ≤ b → integer z ≡ 45 ∷ natural (18446744073709551615 - b + 1)
-  unfolding integer
-  integer_below (pos n) f e h = absurd (omega (arith, f.sfits))
-  integer_below (negsuc n) f e h =
-      let k : 18446744073709551615 - b + 1 ≡ suc n = omega (arith, f.sfits) in
-      rw k
+pub integer_below : (z : ℤ) → is_negative z ≡ true → integer z ≡ 45 ∷ natural (unsigned_abs z)
+unfolding integer
+integer_below (pos n) e = absurd (omega (arith, ltb-true n 0 e))
+integer_below (negsuc n) e = refl
 
 -- ---- HEX
 pub pairs_length : (s : List ℕ) → length (digit_pairs s) ≡ 2 * length s
 unfolding digit_pairs
 pairs_length [] = refl
 pairs_length (b ∷ s) = omega (arith, pairs_length s)
-
--- a text at the front, as an answer says it
-pub put_front : {s l : List ℕ} {r : ℕ} {text : List ℕ} → Put s 0 text l r → length text ≤ length s → ◌≡◌ {A = ℕ × List ℕ} (r, l) (length text, text ++ drop (length text) s)
-put_front {s} {l} {r} {text} a h =
-    let e : r ≡ length text = omega (arith, a.place) in
-    let f : l ≡ text ++ drop (length text) s = a.line ∙ sets-eq text s 0 (rw zero-add h) ∙ rw zero-add in
-    λ i. (e i, f i)

@@ -1,5 +1,6 @@
 -- HEX: an even number of lower-case hexadecimal digits, and `-` stands for none.
-use Rattle.std.specs.Prelude.{Bool, true, cond, ◌&&◌, List, [], ◌∷◌, ◌≡◌, ℕ, ◌+◌, ◌-◌, ◌*◌, ◌/◌, ◌%◌, ◌≤◌, eqb, ltb, leb, length, take, get_or}
+use Rattle.std.specs.Prelude.{Bool, cond, ◌&&◌, List, [], ◌∷◌, ◌≡◌, ℕ, ◌+◌, ◌-◌, ◌*◌, ◌/◌, ◌%◌, ◌≤◌, eqb, ltb, leb, length, take, get_or}
+use Rattle.std.specs.List.{list_all}
 use Rattle.texts.specs.Texts.{bytes, alike}
 
 -- the digit of a value below 16
@@ -14,9 +15,8 @@ digit_value x = cond (leb 48 x && leb x 57) (x - 48) (cond (leb 97 x && leb x 10
 abbrev pub is_hex_digit : ℕ → Bool
 is_hex_digit x = eqb (digit_of (digit_value x)) x
 
-unfoldable pub all_digits : List ℕ → Bool
-all_digits [] = true
-all_digits (x ∷ s) = is_hex_digit x && all_digits s
+abbrev pub all_digits : List ℕ → Bool
+all_digits = list_all is_hex_digit
 
 -- a word is HEX: an even number of digits, at least one pair, or `-`
 unfoldable pub is_hex : List ℕ → Bool

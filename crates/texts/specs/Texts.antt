@@ -1,7 +1,8 @@
 -- Texts and numbers as lists of bytes.
-use Rattle.std.specs.Prelude.{Bool, true, false, cond, ◌&&◌, List, [], ◌∷◌, ◌++◌, ◌≡◌, ℕ, zero, suc, ◌+◌, ◌/◌, ◌%◌, eqb, ltb, ℤ, pos, negsuc, length}
+use Rattle.std.specs.Prelude.{Bool, cond, List, [], ◌∷◌, ◌++◌, ◌≡◌, ℕ, zero, suc, ◌+◌, ◌/◌, ◌%◌, ltb, ℤ, pos, negsuc, length}
 use Prim.Native.Char.{code}
 use Prim.Native.String.{String, [] as noText, ◌∷◌ as ◌then◌}
+use Rattle.std.specs.Str.{bytes_eq}
 use Rattle.std.proofs.lemmas.List.Edits.{sets}
 
 -- the bytes of a quoted text
@@ -10,11 +11,8 @@ bytes noText = []
 bytes (c then s) = code c ∷ bytes s
 
 -- two texts are the same, byte for byte
-unfoldable pub alike : List ℕ → List ℕ → Bool
-alike [] [] = true
-alike [] (y ∷ t) = false
-alike (x ∷ s) [] = false
-alike (x ∷ s) (y ∷ t) = eqb x y && alike s t
+abbrev pub alike : List ℕ → List ℕ → Bool
+alike = bytes_eq
 
 -- a number in at most k digits, no needless zero: the digits of its tenth, and the last one (`0` is 48)
 unfoldable pub in_places : ℕ → ℕ → List ℕ

@@ -1,12 +1,9 @@
 // HEX: bytes as pairs of lower-case hexadecimal digits, `-` for none.
 ghost use Rattle.std.specs.Prelude.{◌≡◌, ◌+◌, ◌*◌, ◌≤◌, ◌<◌, length};
-ghost use Rattle.texts.specs.Texts.{Put};
-ghost use Rattle.texts.specs.Hex.{digit_of, digit_value, is_hex, hex_text, Unhexed};
-
-use crate::same;
+ghost use Rattle.texts.specs.Hex.{digit_of, digit_value, all_digits, is_hex, Unhexed};
 
 // The digit of a value below 16.
-fn digit(value: u8) -> u8
+pub(crate) fn digit(value: u8) -> u8
     requires { value < 16 }
     ensures { result ≡ digit_of value }
 {
@@ -15,40 +12,34 @@ fn digit(value: u8) -> u8
 }
 
 // The value of a digit, 0 of any other byte.
+#[tactic(auto, unfolding(crate::specs::Hex::digit_value))]
 fn digit_value(x: u8) -> u8
     ensures value { result ≡ digit_value x }
     ensures small { result < 16 }
 {
-    if x < b'0' {
-        return 0;
+    match x {
+        b'0'..=b'9' => x - b'0',
+        b'a'..=b'f' => x - b'a' + 10,
+        _ => 0,
     }
-    if x <= b'9' {
-        return x - b'0';
-    }
-    if x < b'a' {
-        return 0;
-    }
-    if x <= b'f' {
-        return x - 87;
-    }
-    0
 }
 
+// A byte is a digit if it is that of its value.
+fn all_digits(s: &[u8]) -> bool
+    ensures { result ≡ all_digits s.now }
+{
+    s.iter().all(|x| digit(digit_value(*x)) == *x)
+}
+
+#[tactic(auto, unfolding(crate::specs::Hex::is_hex))]
 pub fn is_hex(s: &[u8]) -> bool
     ensures { result ≡ is_hex s.now }
 {
-    if s.len() % 2 != 0 {
-        return same(s, b"-");
+    if s.len() % 2 == 0 {
+        !s.is_empty() && all_digits(s)
+    } else {
+        s == b"-".as_slice()
     }
-    let mut i = 0;
-    while i < s.len() {
-        let x = s[i];
-        if digit(digit_value(x)) != x {
-            return false;
-        }
-        i += 1;
-    }
-    0 < i
 }
 
 // The bytes that hex stands for, at the front of bytes, and how many they are.
@@ -56,36 +47,8 @@ pub fn unhex(hex: &[u8], bytes: &mut [u8]) -> usize
     requires { length hex.now ≤ 2 * length bytes.old }
     ensures { Unhexed hex.now bytes.new result }
 {
-    let mut i = 0;
-    let mut n = 0;
-    while i + 1 < hex.len() {
-        let high = digit_value(hex[i]);
-        let low = digit_value(hex[i + 1]);
-        bytes[n] = high * 16 + low;
-        n += 1;
-        i += 2;
+    for n in 0..hex.len() / 2 {
+        bytes[n] = digit_value(hex[2 * n]) * 16 + digit_value(hex[2 * n + 1]);
     }
-    n
-}
-
-// The HEX of bytes, from the place at on, and the place behind it.
-pub fn put_hex(out: &mut [u8], at: usize, bytes: &[u8]) -> usize
-    requires { at + 2 * length bytes.now < length out.old }
-    ensures written { Put out.old at (hex_text bytes.now) out.new result }
-    ensures within { result ≤ at + 2 * length bytes.now + 1 }
-{
-    if bytes.len() == 0 {
-        out[at] = b'-';
-        return at + 1;
-    }
-    let mut i = 0;
-    let mut next = at;
-    while i < bytes.len() {
-        let byte = bytes[i];
-        out[next] = digit(byte / 16);
-        out[next + 1] = digit(byte % 16);
-        next += 2;
-        i += 1;
-    }
-    next
+    hex.len() / 2
 }

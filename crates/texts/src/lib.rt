@@ -1,75 +1,93 @@
-// Texts: compared, and written from a place on, with numbers. What writes answers with the place behind what it wrote.
+// Texts and numbers, written one behind the other, and HEX.
 #![tactic(auto)]
 
 pub mod hex; // bytes as hexadecimal digits, read and written
 
-ghost use Rattle.std.specs.Prelude.{◌≡◌, ◌++◌, ◌+◌, ◌≤◌, length};
-ghost use Rattle.texts.specs.Texts.{bytes as bytes_of, alike, natural, integer, Put};
+ghost use Rattle.std.specs.Prelude.{◌≡◌, ◌++◌, ◌+◌, ◌*◌, ◌≤◌, ◌<◌, length, [], ◌∷◌};
+ghost use Rattle.texts.specs.Texts.{bytes as bytes_of, natural, integer};
+ghost use Rattle.texts.specs.Hex.{hex_text};
+ghost use Rattle.texts.specs.Wrote.{Wrote};
 
-use integers::to_bits;
+use hex::digit;
 
-pub fn same(s: &[u8], t: &[u8]) -> bool
-    ensures { result ≡ alike s.now t.now }
-{
-    if s.len() != t.len() {
-        return false;
+// A line, and the place in it that the next text is written at.
+#[derive(Drop)]
+pub struct Writer<'a> {
+    pub line: &'a mut [u8],
+    pub at: usize,
+}
+
+impl<'a> Writer<'a> {
+    pub fn new(line: &'a mut [u8]) -> Writer<'a>
+        ensures line { result.line.now ≡ line.old }
+        ensures same { result.line.ghost_name ≡ line.entry.ghost_name }
+        ensures at { result.at ≡ 0 }
+    {
+        Writer { line, at: 0 }
     }
-    let mut i = 0;
-    while i < s.len() {
-        if s[i] != t[i] {
-            return false;
+
+    // The text, as it is.
+    pub fn put(&mut self, text: &[u8])
+        requires { self.old.at + length text.now ≤ length self.old.line.now }
+        ensures { Wrote self.old text.now self.new }
+    {
+        let behind = self.at + text.len();
+        self.line[self.at..behind].copy_from_slice(text);
+        self.at = behind;
+    }
+
+    fn put_byte(&mut self, byte: u8)
+        requires { self.old.at < length self.old.line.now }
+        ensures { Wrote self.old (byte ∷ []) self.new }
+    {
+        self.line[self.at] = byte;
+        self.at += 1;
+    }
+
+    pub fn put_natural(&mut self, n: u64)
+        requires { self.old.at + 20 ≤ length self.old.line.now }
+        ensures wrote { Wrote self.old (natural n) self.new }
+        ensures within { self.new.at ≤ self.old.at + 20 }
+    {
+        if n < 10 {
+            return self.put_byte(b'0' + n as u8);
         }
-        i += 1;
+        self.put_natural(n / 10);
+        self.put_byte(b'0' + (n % 10) as u8);
     }
-    true
-}
 
-// The text, as it is.
-pub fn put(out: &mut [u8], at: usize, text: &[u8]) -> usize
-    requires { at + length text.now ≤ length out.old }
-    ensures { Put out.old at text.now out.new result }
-{
-    let mut i = 0;
-    while i < text.len() {
-        out[at + i] = text[i];
-        i += 1;
+    pub fn put_integer(&mut self, n: i64)
+        requires { self.old.at + 21 ≤ length self.old.line.now }
+        ensures wrote { Wrote self.old (integer n) self.new }
+        ensures within { self.new.at ≤ self.old.at + 21 }
+    {
+        if n.is_negative() {
+            self.put_byte(b'-');
+        }
+        self.put_natural(n.unsigned_abs());
     }
-    at + i
-}
 
-pub fn put_natural(out: &mut [u8], at: usize, n: u64) -> usize
-    requires { at + 20 ≤ length out.old }
-    ensures written { Put out.old at (natural n) out.new result }
-    ensures within { result ≤ at + 20 }
-{
-    if n < 10 {
-        out[at] = 48 + n as u8;
-        return at + 1;
+    pub fn put_behind_blank(&mut self, n: u64)
+        requires { self.old.at + 21 ≤ length self.old.line.now }
+        ensures wrote { Wrote self.old (bytes_of " " ++ natural n) self.new }
+        ensures within { self.new.at ≤ self.old.at + 21 }
+    {
+        self.put_byte(b' ');
+        self.put_natural(n);
     }
-    let next = put_natural(out, at, n / 10);
-    out[next] = 48 + (n % 10) as u8;
-    next + 1
-}
 
-pub fn put_integer(out: &mut [u8], at: usize, n: i64) -> usize
-    requires { at + 21 ≤ length out.old }
-    ensures written { Put out.old at (integer n) out.new result }
-    ensures within { result ≤ at + 21 }
-{
-    let bits = to_bits(n);
-    if bits < 9223372036854775808 {
-        return put_natural(out, at, bits);
+    // The HEX of bytes.
+    pub fn put_hex(&mut self, bytes: &[u8])
+        requires { self.old.at + 2 * length bytes.now < length self.old.line.now }
+        ensures wrote { Wrote self.old (hex_text bytes.now) self.new }
+        ensures within { self.new.at ≤ self.old.at + 2 * length bytes.now + 1 }
+    {
+        if bytes.is_empty() {
+            return self.put_byte(b'-');
+        }
+        for byte in bytes {
+            self.put_byte(digit(byte / 16));
+            self.put_byte(digit(byte % 16));
+        }
     }
-    // Below 0: the bits fall short of 2^64 by its size.
-    out[at] = b'-';
-    put_natural(out, at + 1, 18446744073709551615 - bits + 1)
-}
-
-pub fn put_behind_blank(out: &mut [u8], at: usize, n: u64) -> usize
-    requires { at + 21 ≤ length out.old }
-    ensures written { Put out.old at (bytes_of " " ++ natural n) out.new result }
-    ensures within { result ≤ at + 21 }
-{
-    out[at] = b' ';
-    put_natural(out, at + 1, n)
 }

@@ -1,40 +1,21 @@
 -- Tables, one row after the other.
 use mathlib.Core.Path.{◌≡◌, refl}
 use mathlib.Core.Bool.{Bool, true, false, cond}
-use mathlib.Core.List.{List}
-use Prim.Native.Nat.{ℕ, zero, suc, ◌+◌, ◌-◌, ◌<◌, ◌≤◌}
-use native.Mathlib.Numerals.{sub-one}
-use native.Mathlib.Omega.{arith}
-use Rattle.texts.specs.Texts.{alike}
-use Rattle.words.specs.Words.{field_word, rest_at}
-use Rattle.words.specs.Tables.{row_from}
+use mathlib.Core.List.{List, [], ◌∷◌, map}
+use Prim.Native.Nat.{ℕ}
+use Prim.Native.String.{String}
+use Rattle.texts.specs.Texts.{bytes, alike}
+use Rattle.words.specs.Words.{by_word}
 
-pub row_found : (words left k : ℕ) (word table : List ℕ) → 0 < left → alike word (field_word table) ≡ true → k ≡ row_from words left k word table
-unfolding row_from
-row_found words zero k word table h f = absurd (omega arith)
-row_found words (suc left) k word table h f = rw f
-
-pub row_more : (words left k : ℕ) (word table : List ℕ) → 0 < left → alike word (field_word table) ≡ false
-    → row_from words (left - 1) (k + 1) word (rest_at words table) ≡ row_from words left k word table
-unfolding row_from
-row_more words zero k word table h f = absurd (omega arith)
-row_more words (suc left) k word table h f = rw (f, sub-one)
-
--- what is made of the row's number, row by row
-unfoldable pub by_row : {A : Type 0} → (ℕ → A) → ℕ → ℕ → ℕ → List ℕ → List ℕ → A
-by_row f words zero k word table = f k
-by_row f words (suc left) k word table = cond (alike word (field_word table)) (f k) (by_row f words left (k + 1) word (rest_at words table))
-
-pub by_row_lem : {A : Type 0} (f : ℕ → A) (words left k : ℕ) (word table : List ℕ) → f (row_from words left k word table) ≡ by_row f words left k word table
-unfolding row_from by_row
-by_row_lem f words zero k word table = refl
-by_row_lem f words (suc left) k word table = go (alike word (field_word table)) (by_row_lem f words left (k + 1) word (rest_at words table))
+-- what is made of a table's answer, row by row
+pub by_word_lem : {A B : Type 0} (f : A → B) (word : List ℕ) (other : A) (rows : List (String × A))
+    → f (by_word word other rows) ≡ by_word word (f other) (map (λ row. (row.0, f row.1)) rows)
+by_word_lem f word other [] = refl
+by_word_lem {A = A} {B = B} f word other (row ∷ rows) = go (alike word (bytes row.0)) (by_word_lem f word other rows)
   where
-    go : (b : Bool) → f (row_from words left (k + 1) word (rest_at words table)) ≡ by_row f words left (k + 1) word (rest_at words table)
-        → f (cond b k (row_from words left (k + 1) word (rest_at words table))) ≡ cond b (f k) (by_row f words left (k + 1) word (rest_at words table))
+    more : B
+    more = by_word word (f other) (map (λ (r : String × A). (r.0, f r.1)) rows)
+
+    go : (b : Bool) → f (by_word word other rows) ≡ more → f (cond b row.1 (by_word word other rows)) ≡ cond b (f row.1) more
     go true h = refl
     go false h = h
-
--- a number that is not the next one either
-pub after : (n : ℕ) {k : ℕ} → n ≤ k → (k ≡ n → ⊥) → n + 1 ≤ k
-after n h e = omega arith

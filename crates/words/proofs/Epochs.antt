@@ -1,36 +1,30 @@
--- The epochs by their numbers.
+-- The epochs by their names.
 use mathlib.Core.Path.{◌≡◌, refl}
-use mathlib.Core.Bool.{true}
-use mathlib.Core.List.{List, map}
-use Prim.Native.Nat.{ℕ, zero, suc, ◌<◌, ◌≤◌}
-use native.Mathlib.Omega.{arith}
+use mathlib.Core.Bool.{◌||◌}
+use mathlib.Core.List.{List}
+use Prim.Native.Nat.{ℕ}
 use lib.IntN.{ℤ}
-use lib.ListN.{get_or, get_or-eq_default}
-use Rattle.words.specs.Bytes.{index_of}
-use Rattle.words.specs.Words.{word_length, field_length, field_word, rest_at}
-use Rattle.words.specs.Tables.{epoch_names, epoch_row}
-use Rattle.words.specs.Kinds.{epoch, i64, Meaning, epochs, epoch_of, meaning}
-use Rattle.words.specs.Places.{meaningful}
-use Rattle.words.proofs.ByRow.{by_row, by_row_lem}
+use Rattle.std.specs.Prelude.{Option, Some, None}
+use Rattle.std.specs.Option.{is_some}
+use Rattle.words.specs.declared.tables.NamedEpoch.{NamedEpoch}
+use Rattle.words.specs.Tables.{epoch_names, start_of, epoch_row}
+use Rattle.words.specs.Kinds.{epoch_of, meaning}
+use Rattle.words.specs.declared.kinds.Kind.TheVariants.{Epoch, I64}
+use Rattle.words.proofs.ByRow.{by_word_lem}
 
-unfoldable pub epoch_values : List (Meaning ℤ)
-epoch_values = map (λ row. row.1) epochs
+-- what an epoch with a name starts at, or another where there is none
+abbrev pub epoch_or : Option ℤ → Option NamedEpoch → Option ℤ
+epoch_or other (Some name) = Some (start_of name)
+epoch_or other None = other
 
-pub epoch_by : (word : List ℕ) {k : ℕ} → k ≡ epoch_row word → get_or epoch_values k (meaning i64 word) ≡ meaning epoch word
-unfolding epoch_row epoch_of epoch_values by_row rest_at field_length field_word word_length index_of
-epoch_by word e = rw e (by_row_lem (λ k. get_or epoch_values k (meaning i64 word)) 1 6 0 word epoch_names)
+pub epoch_by : (word : List ℕ) → epoch_or (meaning I64 word) (epoch_row word) ≡ meaning Epoch word
+unfolding epoch_row epoch_of
+epoch_by word = by_word_lem (epoch_or (meaning I64 word)) word None epoch_names
 
-pub no_name : (k : ℕ) (z : Meaning ℤ) → 6 ≤ k → get_or epoch_values k z ≡ z
-unfolding epoch_values
-no_name k z h = get_or-eq_default epoch_values z h
+named : (n : Option NamedEpoch) (z : Option ℤ) → (is_some n || is_some z) ≡ is_some (epoch_or z n)
+named (Some name) z = refl
+named None z = refl
 
--- a name stands for an epoch
-pub named : (k : ℕ) (z : Meaning ℤ) → k < 6 → meaningful (get_or epoch_values k z) ≡ true
-unfolding epoch_values
-named zero z h = refl
-named (suc zero) z h = refl
-named (suc (suc zero)) z h = refl
-named (suc (suc (suc zero))) z h = refl
-named (suc (suc (suc (suc zero)))) z h = refl
-named (suc (suc (suc (suc (suc zero))))) z h = refl
-named (suc (suc (suc (suc (suc (suc k)))))) z h = absurd (omega arith)
+-- a word says an epoch if it is a name or a number
+pub epoch_meant : (word : List ℕ) → (is_some (epoch_row word) || is_some (meaning I64 word)) ≡ is_some (meaning Epoch word)
+epoch_meant word = rw (← epoch_by word) (named (epoch_row word) (meaning I64 word))

@@ -2,8 +2,7 @@
 use mathlib.Core.Path.{◌≡◌, refl}
 use mathlib.Core.Bool.{true, false}
 use mathlib.Core.List.{List, [], ◌∷◌}
-use Prim.Native.Nat.{ℕ, zero, suc, ◌+◌, ◌-◌, ◌<◌, ◌≤◌}
-use native.Mathlib.Numerals.{sub-one}
+use Prim.Native.Nat.{ℕ, zero, suc, ◌+◌, ◌<◌, ◌≤◌}
 use native.Mathlib.Omega.{arith}
 use lib.ListN.{length, drop, length-take, length-drop}
 use Rattle.decimals.specs.Numbers.{begins_with}
@@ -23,11 +22,6 @@ pub blank_length : (s : List ℕ) → begins_with 32 s ≡ true → 0 < length s
 unfolding begins_with
 blank_length [] e = let z : ◌≡◌ {A = ℕ} 0 1 = cc in absurd (omega arith)
 blank_length (x ∷ s) e = omega arith
-
-pub rest_more : (i : ℕ) (s : List ℕ) → 0 < i → rest_at i s ≡ rest_at (i - 1) (drop (field_length s) s)
-unfolding rest_at
-rest_more zero s h = absurd (omega arith)
-rest_more (suc i) s h = rw sub-one
 
 pub rest_within : (i : ℕ) (s : List ℕ) → length (rest_at i s) ≤ length s
 unfolding rest_at

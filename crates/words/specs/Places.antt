@@ -1,64 +1,56 @@
--- A line as the code goes over it: the kinds of a row by their letters, and each word by its place. That it comes to the
--- same as `Rows.antt` is `by_place` (`proofs/Places.antt`).
-use Rattle.std.specs.Prelude.{Bool, true, false, ◌&&◌, List, [], ◌∷◌, ℕ, ◌+◌, eqb, pos, length, drop, get_or}
-use Prim.Native.String.{String}
+-- A line as the code goes over it: the kinds of a row, what stands behind them, and each word by its place. That it comes
+-- to the same as `Rows.antt` is `by_place` (`proofs/Places.antt`).
+use Rattle.std.specs.Prelude.{Bool, ◌&&◌, List, [], ◌∷◌, ℕ, ◌+◌, eqb, pos, length, drop, Some}
+use Rattle.std.specs.Option.{is_some, unwrap_or}
 use Rattle.decimals.specs.Numbers.{begins_with}
-use Rattle.printed_parts.specs.declared.Precision.TheVariants.{Digits}
-use Rattle.texts.specs.Texts.{bytes}
 use Rattle.texts.specs.Hex.{hex_bytes}
-use Rattle.words.specs.Words.{by_word, field_length, field_word, rest_at, word_at}
-use Rattle.words.specs.Kinds.{Kind, epoch, i64, i32, u64, u32, u8, precision, hex, Value, Meaning, means, nothing, meaning}
+use Rattle.words.specs.Words.{field_length, field_word, rest_at, word_at}
+use Rattle.words.specs.Kinds.{Value, meaning}
+use Rattle.words.specs.declared.kinds.Kind.{Kind}
+use Rattle.words.specs.declared.kinds.Kind.TheVariants.{Epoch, I64, I32, U64, U32, U8, Precision, Hex}
 use Rattle.words.specs.Rows.{Kinds, end, rest, ◌▸◌, Answer}
+use Rattle.words.specs.declared.kinds.Tail.{Tail}
+use Rattle.words.specs.declared.kinds.Tail.TheVariants.{End, Rest}
 
-abbrev pub meaningful : {A : Type 0} → Meaning A → Bool
-meaningful (means v) = true
-meaningful nothing = false
+-- a row's kinds, and what stands behind its words
+abbrev pub kinds_of : Kinds → List Kind
+kinds_of end = []
+kinds_of rest = []
+kinds_of (kind ▸ kinds) = kind ∷ kinds_of kinds
 
-abbrev letter : Kind → String
-letter epoch = "e"
-letter i64 = "i"
-letter i32 = "y"
-letter u64 = "U"
-letter u32 = "u"
-letter u8 = "b"
-letter precision = "p"
-letter hex = "x"
+abbrev pub tail_of : Kinds → Tail
+tail_of end = End
+tail_of rest = Rest
+tail_of (kind ▸ kinds) = tail_of kinds
 
-abbrev pub letters : Kinds → List ℕ
-letters end = bytes "."
-letters rest = bytes "t"
-letters (kind ▸ kinds) = get_or (bytes (letter kind)) 0 0 ∷ letters kinds
+-- what is in front of s is of a kind
+unfoldable pub good : Kind → List ℕ → Bool
+good kind s = is_some (meaning kind (field_word s))
 
--- what is in front of s is of the kind of a letter
-unfoldable pub good : ℕ → List ℕ → Bool
-good x s = by_word (x ∷ []) false (of epoch ∷ of i64 ∷ of i32 ∷ of u64 ∷ of u32 ∷ of u8 ∷ of precision ∷ of hex ∷ ("t", begins_with 32 s) ∷ (".", eqb (length s) 0) ∷ [])
-  where
-    of : Kind → String × Bool
-    of kind = (letter kind, meaningful (meaning kind (field_word s)))
+-- what is left is none, or a blank stands in front of it
+abbrev pub ends : Tail → List ℕ → Bool
+ends End s = eqb (length s) 0
+ends Rest s = begins_with 32 s
 
 -- behind a verb stand the words of a row: a blank and a word of its kind, each behind the one before
-unfoldable pub fits : List ℕ → List ℕ → Bool
-fits [] s = true
-fits (x ∷ row) s = good x s && fits row (drop (field_length s) s)
+unfoldable pub fits : List Kind → Tail → List ℕ → Bool
+fits [] tail s = ends tail s
+fits (kind ∷ kinds) tail s = good kind s && fits kinds tail (drop (field_length s) s)
 
--- what a word says, or what the code takes where it says nothing
-abbrev pub or_else : {A : Type 0} → A → Meaning A → A
-or_else other (means v) = v
-or_else other nothing = other
-
+-- what the code takes where a word says nothing
 abbrev where_nothing : (kind : Kind) → List ℕ → Value kind
-where_nothing epoch word = pos 0
-where_nothing i64 word = pos 0
-where_nothing i32 word = pos 0
-where_nothing u64 word = 0
-where_nothing u32 word = 0
-where_nothing u8 word = 0
-where_nothing precision word = Digits 0
-where_nothing hex word = hex_bytes word
+where_nothing Epoch word = pos 0
+where_nothing I64 word = pos 0
+where_nothing I32 word = pos 0
+where_nothing U64 word = 0
+where_nothing U32 word = 0
+where_nothing U8 word = 0
+where_nothing Precision word = Some 0
+where_nothing Hex word = hex_bytes word
 
 -- the word i as a value of a kind
 abbrev pub value : (kind : Kind) → ℕ → List ℕ → Value kind
-value kind i s = or_else (where_nothing kind (word_at i s)) (meaning kind (word_at i s))
+value kind i s = unwrap_or (meaning kind (word_at i s)) (where_nothing kind (word_at i s))
 
 -- the answer to the words from the place i on
 abbrev pub given : (kinds : Kinds) → Answer kinds → ℕ → List ℕ → List ℕ

@@ -1,8 +1,9 @@
 -- A row: the kinds of the words behind a verb, and what is made of such words.
-use Rattle.std.specs.Prelude.{cond, List, ℕ, eqb, length, drop}
+use Rattle.std.specs.Prelude.{cond, List, ℕ, eqb, length, drop, Option, Some, None}
 use Rattle.decimals.specs.Numbers.{begins_with}
 use Rattle.words.specs.Words.{field_length, field_word}
-use Rattle.words.specs.Kinds.{Kind, Value, Meaning, means, nothing, meaning}
+use Rattle.words.specs.Kinds.{Value, meaning}
+use Rattle.words.specs.declared.kinds.Kind.{Kind}
 
 -- words of their kinds, then the end of the line, or all that is left of it behind a blank
 infixr 5 ◌▸◌
@@ -18,9 +19,9 @@ Answer rest = List ℕ → List ℕ
 Answer (kind ▸ kinds) = Value kind → Answer kinds
 
 -- what is made of what a word says, or another answer where it says nothing
-abbrev pub when_meant : {A : Type 0} → Meaning A → (A → List ℕ) → List ℕ → List ℕ
-when_meant (means v) answer other = answer v
-when_meant nothing answer other = other
+abbrev pub when_meant : {A : Type 0} → Option A → (A → List ℕ) → List ℕ → List ℕ
+when_meant (Some v) answer other = answer v
+when_meant None answer other = other
 
 -- the answer to a line (32 is the blank); another one where the line is not of these kinds. Where no word is left the
 -- empty one is asked, which says nothing (`no_empty_word` in `proofs/Places.antt`).

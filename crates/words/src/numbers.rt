@@ -2,45 +2,31 @@
 ghost use Rattle.std.specs.Prelude.{◌≡◌, ◌^◌, ◌<◌};
 ghost use Rattle.words.specs.Numbers.{unsigned, signed};
 
-use decimals::{Number, begins_with, parse_number, skip};
-
-#[derive(Clone, Copy)]
-pub enum Signed {
-    Value(i64),
-    Bad,
-}
-
-// The top of i64.
-pub const TOP: u64 = 9223372036854775807;
+use decimals::{begins_with, parse_number, skip};
 
 // A number of an unsigned type whose top is the limit.
-pub(crate) fn parse_unsigned(s: &[u8], limit: u64) -> Number
+#[tactic(auto, unfolding(crate::specs::Numbers::unsigned))]
+pub(crate) fn parse_unsigned(s: &[u8], limit: u64) -> Option<u64>
     ensures { result ≡ unsigned limit s.now }
 {
-    if begins_with(s, b'0') {
-        if 1 < s.len() {
-            return Number::Bad;
-        }
+    if begins_with(s, b'0') && 1 < s.len() {
+        return None;
     }
     parse_number(s, limit)
 }
 
 // A number of a signed type from -top - 1 to top.
-pub(crate) fn parse_signed(s: &[u8], top: u64) -> Signed
+pub(crate) fn parse_signed(s: &[u8], top: u64) -> Option<i64>
     requires { top < 2 ^ 63 }
     ensures { result ≡ signed top s.now }
 {
     if begins_with(s, b'-') {
-        let Number::Value(size) = parse_unsigned(skip(s, 1), top + 1) else {
-            return Signed::Bad;
-        };
-        if size < 1 {
-            return Signed::Bad;
+        let size = parse_unsigned(skip(s, 1), top + 1)?;
+        if size == 0 {
+            return None;
         }
-        return Signed::Value(-1 - ((size - 1) as i64));
+        return Some(-1 - (size - 1) as i64);
     }
-    let Number::Value(size) = parse_unsigned(s, top) else {
-        return Signed::Bad;
-    };
-    Signed::Value(size as i64)
+    let size = parse_unsigned(s, top)?;
+    Some(size as i64)
 }

@@ -9,8 +9,5 @@ pub fn find(s: &[u8], byte: u8) -> usize
     ensures value { result ≡ index_of byte s.now }
     ensures within { result ≤ length s.now }
 {
-    match memchr(byte, s) {
-        Some(i) => i,
-        None => s.len(),
-    }
+    memchr(byte, s).unwrap_or(s.len())
 }

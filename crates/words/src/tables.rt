@@ -1,28 +1,43 @@
-// A table is a line of rows, each of so many words, of which the first is the row's name.
-ghost use Rattle.std.specs.Prelude.{◌≡◌, ◌+◌, ◌≤◌};
+// Tables: rows of a name and what it stands for.
+ghost use Rattle.std.specs.Prelude.{◌≡◌};
 ghost use Rattle.words.specs.Tables.{row_from, epoch_row};
 
-use crate::words::{field_word, rest_at};
-use texts::same;
-
-// The number of the row that a word names, of so many rows that stand behind k others; or how many there are in all.
-pub fn row_of(word: &[u8], table: &[u8], words: usize, left: usize, k: usize) -> usize
-    requires { k + left ≤ 1000 }
-    ensures value { result ≡ row_from «words» left k word.now table.now }
-    ensures within { result ≤ k + left }
+// What stands in the row that a word names.
+pub fn row_of<T: Copy>(word: &[u8], table: &[(&[u8], T)]) -> Option<T>
+    ensures { result ≡ row_from word.now table.now }
 {
-    if left == 0 {
-        return k;
+    for row in table {
+        if word == row.0 {
+            return Some(row.1);
+        }
     }
-    if same(word, field_word(table)) {
-        return k;
-    }
-    row_of(word, rest_at(table, words), words, left - 1, k + 1)
+    None
 }
 
-// The number of the epoch that a word names, or 6.
-pub fn epoch_row(word: &[u8]) -> usize
+// The epochs that have names.
+#[derive(Clone, Copy)]
+pub enum NamedEpoch {
+    Monotonic,
+    Gps,
+    Gst,
+    Bdt,
+    Tai1958,
+    Tai1972,
+}
+
+const EPOCHS: [(&[u8], NamedEpoch); 6] = [
+    (b"monotonic", NamedEpoch::Monotonic),
+    (b"gps", NamedEpoch::Gps),
+    (b"gst", NamedEpoch::Gst),
+    (b"bdt", NamedEpoch::Bdt),
+    (b"tai1958", NamedEpoch::Tai1958),
+    (b"tai1972", NamedEpoch::Tai1972),
+];
+
+// The epoch that a word names.
+#[tactic(auto, unfolding(crate::specs::Tables::row_from, crate::specs::Tables::epoch_row))]
+pub fn epoch_row(word: &[u8]) -> Option<NamedEpoch>
     ensures { result ≡ epoch_row word.now }
 {
-    row_of(word, b" monotonic gps gst bdt tai1958 tai1972", 1, 6, 0)
+    row_of(word, &EPOCHS)
 }

@@ -6,6 +6,7 @@ use crate::scan::find;
 use decimals::{begins_with, skip};
 
 // How many bytes stand before the first blank.
+#[tactic(auto, unfolding(crate::specs::Words::word_length))]
 pub fn word_length(s: &[u8]) -> usize
     ensures value { result ≡ word_length s.now }
     ensures within { result ≤ length s.now }
@@ -25,24 +26,26 @@ pub(crate) fn field_length(s: &[u8]) -> usize
 }
 
 // Its word.
+#[tactic(auto, unfolding(crate::specs::Words::field_word))]
 pub(crate) fn field_word(s: &[u8]) -> &[u8]
     ensures { result.now ≡ field_word s.now }
 {
-    let n = field_length(s);
-    if 0 < n { &s[1..n] } else { &s[..0] }
+    s.get(1..field_length(s)).unwrap_or(&[])
 }
 
 // What is left from the field i on.
 pub fn rest_at(s: &[u8], i: usize) -> &[u8]
     ensures { result.now ≡ rest_at i s.now }
 {
-    if i == 0 {
-        return s;
+    let mut left = s;
+    for _ in 0..i {
+        left = skip(left, field_length(left));
     }
-    rest_at(skip(s, field_length(s)), i - 1)
+    left
 }
 
 // The word i.
+#[tactic(auto, unfolding(crate::specs::Words::word_at))]
 pub fn word_at(s: &[u8], i: usize) -> &[u8]
     ensures { result.now ≡ word_at i s.now }
 {

@@ -18,13 +18,13 @@ fit c y f h l =
     let s = small_add (small_mul 400 m) (small_pos {b = 400} y l) in
     record { cycle = f; years = small_fits tt (small_mul 400 m); found = to_z_pos w64 (omega arith); year = small_fits tt s }
 
-pub month_and_day_of_month-within-requires : goal.month_and_day_of_month-within-requires
-month_and_day_of_month-within-requires c =
+pub month_and_day_of_month-month-requires : goal.month_and_day_of_month-month-requires
+month_and_day_of_month-month-requires c =
     let k = fit c.args.cycle c.year_in_cycle-found.result.year c.ranges.cycle c.requires.0 (omega (arith, c.year_in_cycle-found.ensures.year_to)) in
     simp (to_z-of_z, k.cycle, k.years, k.found, k.year) (day_in_year c.args.cycle _ _ _ c.year_in_cycle-found.ensures)
 
 pub returns : goal.returns
 returns c =
     let k = fit c.args.cycle c.year_in_cycle-found.result.year c.ranges.cycle c.requires.0 (omega (arith, c.year_in_cycle-found.ensures.year_to)) in
-    let j = simp (to_z-of_z, k.cycle, k.years, k.found, k.year) at c.month_and_day_of_month-within.ensures in
+    let j = simp (to_z-of_z, k.cycle, k.years, k.found, k.year) at c.month_and_day_of_month-month.ensures in
     simp (to_z-of_z, k.cycle, k.years, k.found, k.year) (date_found c.args.cycle _ _ _ c.year_in_cycle-found.ensures _ _ j)

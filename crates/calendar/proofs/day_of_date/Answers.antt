@@ -11,7 +11,7 @@ use Rattle.calendar.proofs.Years.{start_step, start_near}
 use Rattle.calendar.proofs.Months.{march, march_rule}
 use Rattle.calendar.proofs.Walk.{day_law}
 use Rattle.calendar.proofs.day_of_date.Goals as goal
-use Rattle.calendar.proofs.day_of_date.Goals.{then-early, else-early, then-early-2, else-early-2}
+use Rattle.calendar.proofs.day_of_date.Goals.{After-days_from_year_0, then-d-lt3, else-d-lt3}
 
 -- the year that ends in a February or starts with a March, and the days of it
 abbrev year_in : Bool → Date → ℤ
@@ -59,35 +59,38 @@ fit d z n h v k e f =
     record { start = small_fits tt a; day = to_z_pos w64 (omega arith); s₁ = small_fits tt b; s₂ = small_fits tt (small_sub b (small_pos {b = 719835} 719835 (omega arith))); is = ap (λ x. x +ℤ pos n -ℤ pos 719835) e ∙ ap (λ x. year_start y +ℤ pos x -ℤ pos 719835) f ∙ march_day d v }
 
 -- the code's month and year, and with them each value
-whole : (d : Date) (month : ℕ) {y z : ℤ} → nat_abs d.year ≤ 1_000_000_000_000 → Valid d → d.day < 2 ^ 8 → month ≡ month_in (ltb d.month 3) d → y ≡ year_in (ltb d.month 3) d → z ≡ year_start y → Fit d z ((month * 979 - 2919) / 32 + d.day)
-whole d month h v l m e f = fit d _ _ h v (omega (arith, month_top (ltb d.month 3) d v.month_to)) (f ∙ ap year_start e) (ap (λ n. (n * 979 - 2919) / 32 + d.day) m)
+whole : (d : Date) (month : ℕ) {z : ℤ} → nat_abs d.year ≤ 1_000_000_000_000 → Valid d → d.day < 2 ^ 8 → month ≡ month_in (ltb d.month 3) d → z ≡ year_start (year_in (ltb d.month 3) d) → Fit d z ((month * 979 - 2919) / 32 + d.day)
+whole d month h v l m e = fit d _ _ h v (omega (arith, month_top (ltb d.month 3) d v.month_to)) e (ap (λ n. (n * 979 - 2919) / 32 + d.day) m)
   where
     month_top : (t : Bool) (d : Date) → d.month ≤ 12 → month_in t d ≤ 24
     month_top true d h = omega arith
     month_top false d h = omega arith
 
-month_is : (d : Date) (month : ℕ) → (d.month < 3) × (month ≡ d.month + 12) ⊎ (3 ≤ d.month) × (month ≡ d.month) → month ≡ month_in (ltb d.month 3) d
-month_is d month (inl (h, e)) = rw (lt-ltb d.month 3 h) e
-month_is d month (inr (h, e)) = rw (le-ltb d.month 3 h) e
+-- the year and the month that the code chooses, and the year as the machine reads it back
+abbrev chosen : Bool → Date → ℤ × ℕ
+chosen early d = (year_in early d, month_in early d)
 
-year_is : (d : Date) {y : ℤ} → SFits w64 d.year → nat_abs d.year ≤ 1_000_000_000_000 → (d.month < 3) × (y ≡ to_z w64 (of_z w64 d.year)) ⊎ (3 ≤ d.month) × (y ≡ to_z w64 (of_z w64 (to_z w64 (of_z w64 d.year) +ℤ pos 1))) → y ≡ year_in (ltb d.month 3) d
-year_is d f b (inl (h, e)) = rw (lt-ltb d.month 3 h) (e ∙ to_z-of_z {w = w64} f)
-year_is d f b (inr (h, e)) =
+chosen_is : (d : Date) {p : ℤ × ℕ} → SFits w64 d.year → nat_abs d.year ≤ 1_000_000_000_000 → ((d.month < 3) × (p ≡ (to_z w64 (of_z w64 d.year), d.month + 12))) ⊎ ((3 ≤ d.month) × (p ≡ (to_z w64 (of_z w64 (to_z w64 (of_z w64 d.year) +ℤ pos 1)), d.month))) → p ≡ chosen (ltb d.month 3) d
+chosen_is d f b (inl (h, e)) = e ∙ rw (lt-ltb d.month 3 h, to_z-of_z {w = w64} f)
+chosen_is d f b (inr (h, e)) =
     let g : SFits w64 (d.year +ℤ pos 1) = small_fits tt (small_add (small_size {z = d.year} b) (small_pos {b = 1} 1 (omega arith))) in
-    rw (le-ltb d.month 3 h) (e ∙ simp to_z-of_z)
+    e ∙ rw (le-ltb d.month 3 h, to_z-of_z {w = w64} f, to_z-of_z {w = w64} g)
 
-here : (c : goal.After-struct_known-2-1) → Fit c.args.d c.days_from_year_0.result ((c.if-early.month * 979 - 2919) / 32 + c.args.d.day)
+read_back : (d : Date) → nat_abs d.year ≤ 1_000_000_000_000 → let y = year_in (ltb d.month 3) d in to_z w64 (of_z w64 y) ≡ y
+read_back d h = to_z-of_z {w = w64} (small_fits tt (small_size {b = 1_000_000_000_001} (year_top (ltb d.month 3) d h)))
+
+here : (c : After-days_from_year_0) → Fit c.args.d c.days_from_year_0.result ((c.if-d-lt3.year.1 * 979 - 2919) / 32 + c.args.d.day)
 here c =
-    whole c.args.d c.if-early.month c.requires.0 c.requires.1 (search rules)
-    (month_is c.args.d c.if-early.month (elim c.if-early.branch [ then-early w ↦ inl (w.if-early.true, w.month-is) | else-early w ↦ inr (w.if-early.false, w.month-is) ]))
-    (year_is c.args.d (search rules) c.requires.0 (elim c.if-early-2.branch [ then-early-2 w ↦ inl (w.if-early-2.true, w.year-is) | else-early-2 w ↦ inr (w.if-early-2.false, w.year-is) ]))
-    c.days_from_year_0.ensures
+    let d = c.args.d in
+    let k = chosen_is d (search rules) c.requires.0 (elim c.if-d-lt3.branch [ then-d-lt3 w ↦ inl (w.if-d-lt3.true, w.year-is) | else-d-lt3 w ↦ inr (w.if-d-lt3.false, w.year-is) ]) in
+    whole d _ c.requires.0 c.requires.1 (search rules) (ap (λ (p : ℤ × ℕ). p.1) k)
+    (c.days_from_year_0.ensures ∙ ap (λ (p : ℤ × ℕ). year_start (to_z w64 (of_z w64 p.0))) k ∙ ap year_start (read_back d c.requires.0))
 
 pub overflow_add-result-2 : goal.overflow_add-result-2
-overflow_add-result-2 c = let k = here c in simp (to_z-of_z, k.start, k.day) k.s₁
+overflow_add-result-2 c = let k = here (search) in simp (to_z-of_z, k.start, k.day) k.s₁
 
 pub overflow_sub-result-2 : goal.overflow_sub-result-2
-overflow_sub-result-2 c = let k = here c in simp (to_z-of_z, k.start, k.day, k.s₁) k.s₂
+overflow_sub-result-2 c = let k = here (search) in simp (to_z-of_z, k.start, k.day, k.s₁) k.s₂
 
 pub returns : goal.returns
-returns c = let k = here c in simp (to_z-of_z, k.start, k.day, k.s₁, k.s₂) k.is
+returns c = let k = here (search) in simp (to_z-of_z, k.start, k.day, k.s₁, k.s₂) k.is

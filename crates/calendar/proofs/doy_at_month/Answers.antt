@@ -10,8 +10,8 @@ returns-then-index-lt2 c =
     let b = c.args.leap in
     ap (λ t. cond t ((k * 489 + 8) / 16) ((k * 489 + 8) / 16 - 2 + bool_byte b)) (sym (lt-ltb k 2 (omega arith))) ∙ start_rule b k c.requires
 
-pub returns : goal.returns
-returns c =
+pub returns-else-index-lt2 : goal.returns-else-index-lt2
+returns-else-index-lt2 c =
     let k = c.args.index in
     let b = c.args.leap in
     ap (λ t. cond t ((k * 489 + 8) / 16) ((k * 489 + 8) / 16 - 2 + bool_byte b)) (sym (le-ltb k 2 (omega arith))) ∙ start_rule b k c.requires

@@ -8,7 +8,7 @@ pub returns-then-width-le9 : goal.returns-then-width-le9
 returns-then-width-le9 c =
     c.put_digits-then-width-le9.ensures ∙ rw (c.split_last_nine-split.ensures.1, digits_low c.args.width 9 c.args.n c.if-width-le9.true)
 
-pub returns : goal.returns
-returns c =
+pub returns-else-width-le9 : goal.returns-else-width-le9
+returns-else-width-le9 c =
     let e = c.split_last_nine-split.ensures in
-    c.put_digits-3.ensures ∙ rw (c.put_digits-2.ensures, e.0, e.1, digits_split 9 c.args.width c.args.n (omega arith), sets_append, digits_length)
+    c.put_digits-else-width-le9-2.ensures ∙ rw (c.put_digits-else-width-le9.ensures, e.0, e.1, digits_split 9 c.args.width c.args.n (omega arith), sets_append, digits_length)

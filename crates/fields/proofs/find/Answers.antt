@@ -1,16 +1,15 @@
--- `fields::find`: each byte that is no delimiter is one more.
-use Rattle.std.proofs.Common.{sym, ◌∙◌, arith}
-use Rattle.fields.proofs.Widths.{width_found, width_more, width_end}
+-- `fields::find`: the width is the place of the first delimiter.
+use Rattle.std.proofs.Common.{◌≡◌, rules}
+use Rattle.std.proofs.lemmas.Iterator.{YieldsList-from_slice}
+use Rattle.std.proofs.lemmas.Iterator.Search.{position_from_yields_List}
+use Rattle.std.specs.List.{position}
+use Rattle.fields.specs.Fields.{is_delimiter}
+use Rattle.fields.proofs.Widths.{width_is}
 use Rattle.fields.proofs.find.Goals as goal
-
-pub returns-then-is_delimiter-clause-value : goal.returns-then-is_delimiter-clause-value
-returns-then-is_delimiter-clause-value c = sym (c.loop-i.invariant.value ∙ width_found _ _ _ c.loop-i-test.true cc)
-
-pub loop-i-preserved : goal.loop-i-preserved
-loop-i-preserved c = record {
-  in_text = omega arith;
-  value = c.loop-i.invariant.value ∙ width_more _ _ _ c.loop-i-test.true cc;
-}
+use borrow.Author.Tests.{tests}
 
 pub returns-clause-value : goal.returns-clause-value
-returns-clause-value c = sym (c.loop-i.invariant.value ∙ width_end _ _ _ (omega arith))
+returns-clause-value c =
+    let found : c.position.result ≡ position (is_delimiter c.args.delimiter) c.args.s.now =
+    position_from_yields_List (is_delimiter c.args.delimiter) _ _ c.position.result c.position.ensures.ran (YieldsList-from_slice c.args.s.now cc) (λ x b q k. search (rules, tests)) in
+    rw (width_is, ← found) c.unwrap_or.ensures

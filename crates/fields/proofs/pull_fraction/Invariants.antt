@@ -1,5 +1,5 @@
 -- `fields::pull_fraction`: the nanoseconds are those of nano at place i with the digits from there on.
-use Rattle.std.proofs.Common.{◌≡◌, ◌-◌, ◌^◌, ◌<◌, ◌≤◌, length, drop}
+use Rattle.std.proofs.Common.{◌≡◌, ◌^◌, ◌<◌, drop}
 use Rattle.decimals.specs.Numbers.{all_digits}
 use Rattle.fields.specs.Fields.{nanoseconds}
 use Rattle.fields.proofs.Tenths.{placed}
@@ -7,20 +7,7 @@ use Rattle.fields.proofs.pull_fraction.Given as goal
 
 abbrev pub invariant-loop-i : goal.invariant-loop-i
 invariant-loop-i l = record {
-  in_places : l.i ≤ 9;
   in_value : l.nano < 10 ^ l.i;
   digits : all_digits l.digits ≡ all_digits (drop l.i l.digits);
   value : nanoseconds l.digits ≡ placed l.i l.nano l.digits;
 }
-
-abbrev pub decreases-loop-i : goal.decreases-loop-i
-decreases-loop-i l = 9 - l.i
-
-abbrev pub invariant-loop-i-2 : goal.invariant-loop-i-2
-invariant-loop-i-2 l = record {
-  digits : all_digits l.digits ≡ all_digits (drop l.i l.digits);
-  value : nanoseconds l.digits ≡ l.nano;
-}
-
-abbrev pub decreases-loop-i-2 : goal.decreases-loop-i-2
-decreases-loop-i-2 l = length l.digits - l.i

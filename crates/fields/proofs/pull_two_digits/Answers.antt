@@ -2,7 +2,6 @@
 use Rattle.std.proofs.Common.{sym, ◌∙◌, inl, inr, arith}
 use borrow.Author.Tests.{ne_eqb}
 use Rattle.fields.specs.Fields.{two_digits}
-use Rattle.decimals.proofs.Values.{is_digit_lem}
 use Rattle.fields.proofs.Pairs.{pair_short, pair_last, pair_got, pair_wide, pair_bad}
 use Rattle.fields.proofs.pull_two_digits.Goals.{else-is_digit-via-then-is_digit+else-is_digit-2, else-is_digit-via-else-is_digit}
 use Rattle.fields.proofs.pull_two_digits.Goals as goal
@@ -11,22 +10,13 @@ pub returns-then-s-lt2 : goal.returns-then-s-lt2
 returns-then-s-lt2 c = pair_short _ _ c.if-s-lt2.true
 
 pub returns-then-s-eq2 : goal.returns-then-s-eq2
-returns-then-s-eq2 c =
-    let x = is_digit_lem (sym c.is_digit.ensures ∙ c.if-is_digit.true) in
-    let y = is_digit_lem (sym c.is_digit-then-is_digit.ensures ∙ c.if-is_digit-2.true) in
-    rw c.pair-value.ensures (pair_last _ _ c.if-s-eq2.true x y)
+returns-then-s-eq2 c = rw c.pair-value.ensures (pair_last _ _ c.if-s-eq2.true (cc) cc)
 
 pub returns-then-is_delimiter : goal.returns-then-is_delimiter
-returns-then-is_delimiter c =
-    let x = is_digit_lem (sym c.is_digit.ensures ∙ c.if-is_digit.true) in
-    let y = is_digit_lem (sym c.is_digit-then-is_digit.ensures ∙ c.if-is_digit-2.true) in
-    rw c.pair-value.ensures (pair_got _ _ (omega arith) x y cc)
+returns-then-is_delimiter c = rw c.pair-value.ensures (pair_got _ _ (omega arith) (cc) (cc) cc)
 
 pub returns-then-is_digit-2 : goal.returns-then-is_digit-2
-returns-then-is_digit-2 c =
-    let x = is_digit_lem (sym c.is_digit.ensures ∙ c.if-is_digit.true) in
-    let y = is_digit_lem (sym c.is_digit-then-is_digit.ensures ∙ c.if-is_digit-2.true) in
-    pair_wide _ _ (omega arith) x y cc
+returns-then-is_digit-2 c = pair_wide _ _ (omega arith) (cc) (cc) cc
 
 pub returns-then-find-eq2 : goal.returns-then-find-eq2
 returns-then-find-eq2 c =

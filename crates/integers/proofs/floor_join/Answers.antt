@@ -4,7 +4,7 @@ use mir.Facts.{to_z_pos}
 use lib.Signed.{lt_z}
 use Rattle.integers.specs.Integers.{whole, checked, is_i64}
 use Rattle.integers.specs.declared.Parts.{Parts}
-use Rattle.integers.specs.declared.Checked.TheVariants.{Exact}
+use Rattle.std.specs.Prelude.{Some}
 use Rattle.integers.proofs.Floor.{join_down}
 use Rattle.integers.proofs.Machine.{known64, natural}
 use Rattle.integers.proofs.Sums.{exact_if, none_if}
@@ -23,7 +23,7 @@ up p k f e = ap (λ z. z *ℤ pos k +ℤ pos p.rest) (natural f e)
 pub returns-then-is_below_top : goal.returns-then-is_below_top
 unfolding is_i64
 returns-then-is_below_top c =
-    ap Exact (to_z-of_z {w = w64} (known64 c.negative.result c.negative.type_inv).self ∙ c.negative.ensures) ∙ exact_if (negsuc _) (sym c.is_below_top.ensures ∙ c.if-is_below_top.true)
+    ap Some (to_z-of_z {w = w64} (known64 c.negative.result c.negative.type_inv).self ∙ c.negative.ensures) ∙ exact_if (negsuc _) (sym c.is_below_top.ensures ∙ c.if-is_below_top.true)
     ∙ sym (ap checked (down c.args.parts c.args.divisor (search rules) c.requires c.complement-below.ensures))
 
 pub returns-then-quotient-lt0 : goal.returns-then-quotient-lt0
@@ -33,7 +33,7 @@ returns-then-quotient-lt0 c = none_if (negsuc _) (sym c.is_below_top.ensures ∙
 pub returns-then-is_below_top-2 : goal.returns-then-is_below_top-2
 unfolding is_i64
 returns-then-is_below_top-2 c =
-    ap Exact (to_z_pos w64 (ltb-true _ _ (sym c.is_below_top-2.ensures ∙ c.if-is_below_top-2.true))) ∙ exact_if (pos _) (sym c.is_below_top-2.ensures ∙ c.if-is_below_top-2.true)
+    ap Some (to_z_pos w64 (ltb-true _ _ (sym c.is_below_top-2.ensures ∙ c.if-is_below_top-2.true))) ∙ exact_if (pos _) (sym c.is_below_top-2.ensures ∙ c.if-is_below_top-2.true)
     ∙ sym (ap checked (up c.args.parts c.args.divisor (search rules) c.if-quotient-lt0.false))
 
 pub returns : goal.returns

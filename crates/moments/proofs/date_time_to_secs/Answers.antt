@@ -20,8 +20,8 @@ proper_moment : (m : Moment) {day : ℤ} {second : ℕ} → (nat_abs m.date.year
 proper_moment m p e f =
     record { small = rw f (second_within m.time p.2); divisor = omega arith; quotient = omega (arith, ap nat_abs e, day_near m.date p.1, p.0) }
 
-pub sub_parts-requires : goal.sub_parts-requires
-sub_parts-requires c =
+pub sub_parts-difference-requires : goal.sub_parts-difference-requires
+sub_parts-difference-requires c =
     let day = to_z-of_z {w = w64} (known64 c.day_of_date.result c.day_of_date.type_inv).self ∙ c.day_of_date.ensures in
     let g = known c.ranges.epoch in
     (proper_moment c.args.m c.requires day c.second_of_day.ensures, proper _ (of_split c.ranges.epoch c.floor_split.ensures) (omega arith) (omega arith) (omega arith))
@@ -29,4 +29,4 @@ sub_parts-requires c =
 pub returns : goal.returns
 returns c =
     let day = to_z-of_z {w = w64} (known64 c.day_of_date.result c.day_of_date.type_inv).self ∙ c.day_of_date.ensures in
-    c.floor_join.ensures ∙ ap checked (whole_of _ (of_sub (moment_parts c.args.m c.requires.2 day c.second_of_day.ensures) (of_split c.ranges.epoch c.floor_split.ensures) c.sub_parts.ensures))
+    c.floor_join.ensures ∙ ap checked (whole_of _ (of_sub (moment_parts c.args.m c.requires.2 day c.second_of_day.ensures) (of_split c.ranges.epoch c.floor_split.ensures) c.sub_parts-difference.ensures))

@@ -1,19 +1,18 @@
 -- `moments::from_year_0`: the sum itself, where it fits; else the parts of the exact sum.
 use Rattle.std.proofs.Common.{ap, subst, ◌∙◌, arith, rules, pos, ◌+ℤ◌, to_z-of_z, w64, SFits}
 use Rattle.integers.proofs.Machine.{two}
-use Rattle.integers.proofs.Sums.{exact_tells}
 use Rattle.integers.proofs.Floor.{PartsOf, of_split, of_add, proper}
 use Rattle.moments.proofs.from_year_0.Goals as goal
 
-pub returns-in-Exact-checked_add : goal.returns-in-Exact-checked_add
-returns-in-Exact-checked_add c =
+pub returns-in-Some-checked_add : goal.returns-in-Some-checked_add
+returns-in-Some-checked_add c =
     let f = c.ranges.seconds in
     let g = c.ranges.epoch in
-    let h : SFits w64 c.in-Exact.sum = search rules in
-    let s = (exact_tells _ (simp to_z-of_z at c.in-Exact.ensures)).1 in
-    let t = (exact_tells _ (simp to_z-of_z at c.in-Exact-checked_add.ensures)).1 in
+    let h : SFits w64 c.in-Some.sum = search rules in
+    let s = (simp (to_z-of_z, f, g) at c.in-Some.ensures).1 in
+    let t = (simp (to_z-of_z, h) at c.in-Some-checked_add.ensures).1 in
     let p = c.floor_split.result in
-    subst (λ z. PartsOf 12622780800 z p) (t ∙ ap (λ z. z +ℤ pos 62167219200) s) (of_split {n = c.in-Exact-checked_add.sum} {p = p} (search rules) c.floor_split.ensures)
+    subst (λ z. PartsOf 12622780800 z p) (t ∙ ap (λ z. z +ℤ pos 62167219200) s) (of_split {n = c.in-Some-checked_add.sum} {p = p} (search rules) c.floor_split.ensures)
 
 pub add_parts-requires : goal.add_parts-requires
 add_parts-requires c =

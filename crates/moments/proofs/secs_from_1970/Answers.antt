@@ -42,8 +42,8 @@ overflow_mul-result c =
     let f : SFits w64 c.day_of_date.result = small_fits tt d in
     simp (to_z-of_z, f) (small_fits {w = w64} tt (small_mul 86400 d))
 
-pub overflow_cast-result : goal.overflow_cast-result
-overflow_cast-result c = (fit c.args.m _ _ c.requires c.day_of_date.ensures c.second_of_day.ensures).second
+pub overflow_cast-result-2 : goal.overflow_cast-result-2
+overflow_cast-result-2 c = (fit c.args.m _ _ c.requires c.day_of_date.ensures c.second_of_day.ensures).second
 
 pub overflow_add-result : goal.overflow_add-result
 overflow_add-result c = let k = fit c.args.m _ _ c.requires c.day_of_date.ensures c.second_of_day.ensures in simp (to_z-of_z, k.day, k.days, k.cast) k.sum

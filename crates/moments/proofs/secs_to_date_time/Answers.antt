@@ -10,4 +10,4 @@ returns c =
     let g = c.ranges.epoch in
     let h : SFits w64 c.from_year_0-parts.result.quotient = search rules in
     let parts : PartsOf 12622780800 (c.args.seconds +ℤ c.args.epoch +ℤ pos 62167219200) c.from_year_0-parts.result = simp to_z-of_z at c.from_year_0-parts.ensures in
-    moment_of _ _ (days_of_cycles parts) (simp to_z-of_z at c.date_in_cycle-date.ensures) c.time_at-time.ensures
+    moment_of _ _ (days_of_cycles parts) (simp to_z-of_z at c.date_in_cycle.ensures) c.time_at.ensures

@@ -5,24 +5,24 @@ use Rattle.printed_parts.proofs.Lengths.{marked_length, bare_length}
 use Rattle.printed_parts.proofs.put_part.Goals as goal
 
 pub bounds-s-at : goal.bounds-s-at
-bounds-s-at c = omega (arith, marked_length c.args.mark c.args.p c.if-p.true)
+bounds-s-at c = omega (arith, marked_length c.args.p c.in-Some.is)
 
 pub put_number-requires : goal.put_number-requires
-put_number-requires c = (simp length-set (omega (arith, marked_length c.args.mark c.args.p c.if-p.true)), c.requires.0.value)
+put_number-requires c = (simp length-set (omega (arith, marked_length c.args.p c.in-Some.is)), c.args.p.bounded.value)
 
-pub returns-then-p-clause-behind : goal.returns-then-p-clause-behind
-returns-then-p-clause-behind c = omega (arith, marked_length c.args.mark c.args.p c.if-p.true)
+pub put_number-requires-in-None : goal.put_number-requires-in-None
+put_number-requires-in-None c = (omega (arith, bare_length c.args.p c.in-None.is), c.args.p.bounded.value)
 
-pub returns-then-p-clause-written : goal.returns-then-p-clause-written
+pub returns-in-Some-clause-behind : goal.returns-in-Some-clause-behind
+returns-in-Some-clause-behind c = omega (arith, marked_length c.args.p c.in-Some.is)
+
+pub returns-in-Some-clause-written : goal.returns-in-Some-clause-written
 unfolding part_text
-returns-then-p-clause-written c = c.put_number.ensures ∙ rw (c.if-p.true, add-one)
+returns-in-Some-clause-written c = c.put_number.ensures ∙ rw (c.in-Some.is, add-one)
 
-pub put_number-requires-2 : goal.put_number-requires-2
-put_number-requires-2 c = (omega (arith, bare_length c.args.mark c.args.p c.if-p.false), c.requires.0.value)
+pub returns-in-None-clause-behind : goal.returns-in-None-clause-behind
+returns-in-None-clause-behind c = omega (arith, bare_length c.args.p c.in-None.is)
 
-pub returns-clause-behind : goal.returns-clause-behind
-returns-clause-behind c = omega (arith, bare_length c.args.mark c.args.p c.if-p.false)
-
-pub returns-clause-written : goal.returns-clause-written
+pub returns-in-None-clause-written : goal.returns-in-None-clause-written
 unfolding part_text
-returns-clause-written c = c.put_number-2.ensures ∙ rw c.if-p.false
+returns-in-None-clause-written c = c.put_number-in-None.ensures ∙ rw c.in-None.is

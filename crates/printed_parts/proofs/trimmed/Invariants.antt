@@ -4,12 +4,9 @@ use Rattle.digits.specs.Digits.{digits}
 use Rattle.printed_parts.specs.Text.{trim}
 use Rattle.printed_parts.proofs.trimmed.Given as goal
 
-abbrev pub invariant-loop-width : goal.invariant-loop-width
-invariant-loop-width l = record {
-  nine : l.width ≤ 9;
+abbrev pub invariant-loop-before : goal.invariant-loop-before
+invariant-loop-before l = record {
+  nine : l.before ≤ 9;
   small : l.value < 2 ^ 30;
-  trimmed : trim (digits 9 l.nanos) ≡ trim (digits l.width l.value);
+  trimmed : trim (digits 9 l.nanos) ≡ trim (digits l.before l.value);
 }
-
-abbrev pub decreases-loop-width : goal.decreases-loop-width
-decreases-loop-width l = l.width

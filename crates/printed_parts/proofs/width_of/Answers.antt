@@ -1,29 +1,16 @@
--- `printed_parts::width_of`: a power of ten up to the size takes one digit more (`more`), and the first beyond it has room (`here`).
-use Rattle.std.proofs.Common.{◌≡◌, refl, ◌+◌, ◌-◌, ◌*◌, ◌^◌, ◌<◌, ◌≤◌, sym, ap, ◌∙◌, add-one, arith}
-use Rattle.digits.specs.Digits.{width}
-use Rattle.digits.proofs.Width.{here, more, power_lt}
+-- `printed_parts::width_of`: the width that is found is the least (`width_is`).
+use Rattle.std.proofs.Common.{◌≡◌, ◌+◌, ◌*◌, ◌-◌, ◌^◌, ◌<◌, sym, add-one, arith}
+use native.Mathlib.Nat.{pow-succ'}
+use Rattle.digits.proofs.Width.{power_lt, width_is}
 use Rattle.printed_parts.proofs.width_of.Goals as goal
-use native.Mathlib.Nat.{pow-suc}
 
-pub loop-power-init : goal.loop-power-init
-unfolding width
-loop-power-init c = record { four = omega arith; twelve = omega arith; is_power = refl; positive = omega arith; width = refl }
+pub returns-then-size-lt10000 : goal.returns-then-size-lt10000
+returns-then-size-lt10000 c = sym (width_is 4 c.args.size (omega arith) (record { from = omega arith; room = omega arith; least = λ l. absurd (omega arith) }))
 
-pub loop-power-preserved : goal.loop-power-preserved
-loop-power-preserved c =
-    let i = c.loop-power.invariant in
-    let w = c.loop-power.w in
-    let n = c.args.size in
-    let h : 10 ^ w ≤ n = rw i.is_power at c.loop-power-test.true in
-    let l : w < 12 = power_lt w 12 (omega arith) in
-    let e : 20 - w - 1 ≡ 20 - (w + 1) = omega arith in
-    record {
-      four = omega arith;
-      twelve = omega arith;
-      is_power = rw (add-one, pow-suc) (ap (λ x. x * 10) i.is_power);
-      positive = omega arith;
-      width = i.width ∙ more _ w n (omega arith) h ∙ rw e;
-    }
-
-pub returns : goal.returns
-returns c = sym (c.loop-power.invariant.width ∙ here _ _ _ (rw c.loop-power.invariant.is_power at c.loop-power-test.false))
+pub returns-else-size-lt10000 : goal.returns-else-size-lt10000
+returns-else-size-lt10000 c =
+    let k = c.ilog10.result in
+    let e : 10 ^ (k + 1) ≡ 10 * 10 ^ k = rw (add-one, pow-succ') in
+    let room : c.args.size < 10 ^ (k + 1) = rw e c.ilog10.ensures.next_power_gt in
+    let d : k + 1 - 1 ≡ k = omega arith in
+    sym (width_is (k + 1) c.args.size (omega arith) (record { from = omega (arith, power_lt 4 (k + 1) (omega arith)); room = room; least = λ l. rw d c.ilog10.ensures.power_le }))

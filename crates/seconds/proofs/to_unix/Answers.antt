@@ -1,26 +1,29 @@
 -- `seconds::to_unix`: the call tells whether the exact sum is an i64.
-use Rattle.std.proofs.Common.{◌≡◌, ap, ◌∙◌, arith, ◌+ℤ◌, ◌-ℤ◌, to_z-of_z, w64, SFits, rules}
+use Rattle.std.proofs.Common.{◌≡◌, ℤ, ap, ◌∙◌, sym, ◌+ℤ◌, ◌-ℤ◌, to_z-of_z, w64, SFits, rules}
 use Rattle.integers.specs.Integers.{checked}
 use Rattle.errors.specs.Refusals.{gives}
 use Rattle.seconds.specs.Counts.{to_unix}
-use Rattle.seconds.proofs.Checks.{bad, good, outside, inside, value, in_turn}
+use Rattle.seconds.proofs.Checks.{outside, given, one_good, in_turn, bad_nanos, not_representable, no_sum}
 use Rattle.seconds.proofs.to_unix.Goals as goal
 use Rattle.seconds.proofs.to_unix.Goals.{After-checked_sum}
 
 sum : (c : After-checked_sum) → c.checked_sum.result ≡ checked (c.args.secs -ℤ c.args.leap +ℤ c.args.epoch)
 sum c = (simp (to_z-of_z, c.ranges.secs, c.ranges.leap, c.ranges.epoch) at c.checked_sum.ensures) ∙ ap checked (in_turn c.args.secs c.args.epoch c.args.leap)
 
-pub returns-then-nanos-gt999999999 : goal.returns-then-nanos-gt999999999
+pub returns-in_err-check_nanos : goal.returns-in_err-check_nanos
 unfolding to_unix
-returns-then-nanos-gt999999999 c = rw (bad c.args.nanos c.if-nanos-gt999999999.true)
+returns-in_err-check_nanos c = bad_nanos _ _ c.args.nanos c.from_residual.result _ c.from_residual.ensures.1 c.in_err-check_nanos.ensures
 
-pub returns-in_default : goal.returns-in_default
+pub returns-in_err-unix : goal.returns-in_err-unix
 unfolding to_unix
-returns-in_default c = rw (good c.args.nanos (omega arith), outside _ (sum (search)) c.in_default.is)
+returns-in_err-unix c =
+    let e = c.in_err-unix.ensures in
+    not_representable _ _ _ c.from_residual-in_err-unix.result _ c.from_residual-in_err-unix.ensures.1 (no_sum e.value e.ok_part) (outside _ (sum (search)) e.ok_part)
+    ∙ sym (one_good c.in_ok-check_nanos.ensures)
 
 pub returns : goal.returns
 unfolding to_unix
 returns c =
-    let f : SFits w64 c.in-Exact.unix = search rules in
-    let e = sum (search) in
-    rw (good c.args.nanos (omega arith), inside _ e c.in-Exact.is) (ap gives (to_z-of_z {w = w64} f ∙ value _ e c.in-Exact.is))
+    let form : ℤ → ℤ = λ x. x in
+    let f : SFits w64 c.in_ok-unix.unix = search rules in
+    ap (λ x. gives (form x)) (to_z-of_z {w = w64} f) ∙ given _ (sum (search)) form c.in_ok-unix.ensures.ok_part ∙ sym (one_good c.in_ok-check_nanos.ensures)

@@ -13,10 +13,10 @@ print_in-requires c =
     let e = ap length c.word_at.ensures in
     simp length-take (omega (arith, word_within 5 c.args.s.now, c.unhex-n.ensures.half))
 
-pub returns-clause-written : goal.returns-clause-written
+pub returns-clause-wrote : goal.returns-clause-wrote
 unfolding answer_of
-returns-clause-written c =
-    rw (← c.epoch_word.ensures, ← c.time_at-t.ensures.secs_value, ← c.time_at-t.ensures.nanos_value, ← c.precision_at.ensures, ← c.u64_at-at.ensures, ← hex_value 5 _, ← c.word_at.ensures, ← c.unhex-n.ensures.front) c.print_in.ensures.written
+returns-clause-wrote c =
+    rw (← c.epoch_word.ensures, ← c.time_at-t.ensures.secs_value, ← c.time_at-t.ensures.nanos_value, ← c.precision_at.ensures, ← c.value_at-at.ensures, ← hex_value 5 _, ← c.word_at.ensures, ← c.unhex-n.ensures.front) c.print_in.ensures.wrote
 
 pub returns-clause-within : goal.returns-clause-within
 returns-clause-within c =

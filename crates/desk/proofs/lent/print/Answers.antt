@@ -5,24 +5,24 @@ use Rattle.desk.specs.Verbs.{answer_of}
 use Rattle.desk.proofs.Prints.{printed, refused}
 use Rattle.desk.proofs.lent.print.Goals as goal
 
-pub overflow_add-result : goal.overflow_add-result
-overflow_add-result c =
-    let w = printed _ _ _ _ _ (omega arith) (search rules) (search rules) c.display.ensures (ap said c.in-Length.is) in
-    record { fits = omega (arith, c.put.ensures.place) }
+pub overflow_add-out : goal.overflow_add-out
+overflow_add-out c =
+    let w = printed _ _ _ _ _ _ (omega arith) (search rules) (search rules) c.display.ensures (ap said c.in-Ok.is) in
+    record { fits = omega (arith, w.0, c.put.ensures.put.place) }
 
-pub returns-in-Length-clause-written : goal.returns-in-Length-clause-written
+pub returns-in-Ok-clause-wrote : goal.returns-in-Ok-clause-wrote
 unfolding answer_of
-returns-in-Length-clause-written c =
-    let w = printed _ _ _ _ _ (omega arith) (search rules) (search rules) c.display.ensures (ap said c.in-Length.is) in
-    rw (← c.epoch_word.ensures, ← c.time_at.ensures.secs_value, ← c.time_at.ensures.nanos_value, ← c.precision_at.ensures) (record { line = c.put.ensures.line ∙ w.1; place = omega (arith, c.put.ensures.place) })
+returns-in-Ok-clause-wrote c =
+    let w = printed _ _ _ _ _ _ (omega arith) (search rules) (search rules) c.display.ensures (ap said c.in-Ok.is) in
+    rw (← c.epoch_word.ensures, ← c.time_at.ensures.secs_value, ← c.time_at.ensures.nanos_value, ← c.precision_at.ensures) (record { put = record { line = c.put.ensures.put.line ∙ w.1; place = omega (arith, c.put.ensures.put.place) }; size = c.put.ensures.size ∙ c.display.auto.line; same = c.put.ensures.same })
 
-pub returns-in-Length-clause-within : goal.returns-in-Length-clause-within
-returns-in-Length-clause-within c =
-    let w = printed _ _ _ _ _ (omega arith) (search rules) (search rules) c.display.ensures (ap said c.in-Length.is) in
-    omega (arith, c.put.ensures.place)
+pub returns-in-Ok-clause-within : goal.returns-in-Ok-clause-within
+returns-in-Ok-clause-within c =
+    let w = printed _ _ _ _ _ _ (omega arith) (search rules) (search rules) c.display.ensures (ap said c.in-Ok.is) in
+    omega (arith, c.put.ensures.put.place)
 
-pub returns-in-Refused-clause-written : goal.returns-in-Refused-clause-written
+pub returns-in-Err-clause-wrote : goal.returns-in-Err-clause-wrote
 unfolding answer_of
-returns-in-Refused-clause-written c =
-    let w = refused _ _ _ _ _ (omega arith) (search rules) (search rules) c.display.ensures (ap said c.in-Refused.is) in
-    rw (← c.epoch_word.ensures, ← c.time_at.ensures.secs_value, ← c.time_at.ensures.nanos_value, ← c.precision_at.ensures, ← w.1, ← w.0, c.in-Refused.is) (rw c.refusal.ensures at c.put_refusal.ensures.written)
+returns-in-Err-clause-wrote c =
+    let w = refused _ _ _ _ _ _ (omega arith) (search rules) (search rules) c.display.ensures (ap said c.in-Err.is) in
+    rw (← c.epoch_word.ensures, ← c.time_at.ensures.secs_value, ← c.time_at.ensures.nanos_value, ← c.precision_at.ensures, ← w.1, c.in-Err.is) (rw (w.0, c.into.ensures) at c.put_refusal.ensures.wrote)

@@ -1,7 +1,8 @@
--- `desk::lent::print_in`: the pieces are put one behind the other (`put_on`).
-use Rattle.texts.proofs.Puts.{put_on}
+-- `desk::lent::print_in`: the pieces are written one behind the other (`wrote_on`).
+use Rattle.texts.proofs.Wrotes.{wrote_on}
+use Rattle.desk.proofs.Entries.{length_said}
 use Rattle.desk.proofs.lent.print_in.Goals as goal
 
-pub returns-clause-written : goal.returns-clause-written
-returns-clause-written c =
-    rw (← c.display-printed.ensures, ← c.said_printed.ensures) (put_on (put_on c.put_said-end.ensures.written c.put-end.ensures) c.put_hex.ensures.written)
+pub returns-clause-wrote : goal.returns-clause-wrote
+returns-clause-wrote c =
+    rw (← c.display-printed.ensures, ← length_said c.display-printed.result c.answered.result c.answered.ensures) (wrote_on (wrote_on c.put_said.ensures.wrote c.put.ensures) c.put_hex.ensures.wrote)

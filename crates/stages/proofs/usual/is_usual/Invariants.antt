@@ -1,13 +1,7 @@
 -- `stages::usual::is_usual`: the text fits from the front as it fits from i on.
-use Rattle.std.proofs.Common.{◌-◌, ◌≡◌, ◌≤◌, drop}
+use Rattle.std.proofs.Common.{◌≡◌, drop}
 use Rattle.stages.specs.Usual.{usual_shape, fits}
 use Rattle.stages.proofs.usual.is_usual.Given as goal
 
 abbrev pub invariant-loop-i : goal.invariant-loop-i
-invariant-loop-i l = record {
-  in_shape : l.i ≤ 19;
-  value : fits usual_shape l.text ≡ fits (drop l.i usual_shape) (drop l.i l.text);
-}
-
-abbrev pub decreases-loop-i : goal.decreases-loop-i
-decreases-loop-i l = 19 - l.i
+invariant-loop-i l = fits usual_shape l.text ≡ fits (drop l.i usual_shape) (drop l.i l.text)

@@ -1,0 +1,20 @@
+// The kinds of words.
+
+#[derive(Clone, Copy)]
+pub enum Kind {
+    Epoch,
+    I64,
+    I32,
+    U64,
+    U32,
+    U8,
+    Precision,
+    Hex,
+}
+
+// What stands behind the words of a row: the line's end, or all that is left of it behind a blank.
+#[derive(Clone, Copy)]
+pub enum Tail {
+    End,
+    Rest,
+}
