@@ -7,7 +7,7 @@ ghost use Rattle.std.specs.Prelude.{◌≡◌, ◌+◌, ◌^◌, ◌≤◌, ◌<
 ghost use Rattle.std.proofs.lemmas.List.Edits.{sets};
 ghost use Rattle.digits.specs.Digits.{digits, width};
 ghost use Rattle.printed_parts.specs.Text.{year_text, pointed, fraction_text};
-ghost use Rattle.printed_parts.specs.Parts.{PartOf, part_text};
+ghost use Rattle.printed_parts.specs.Parts.{part_text};
 
 use digits::{put_number, split_last_digit};
 pub use part::Part;
@@ -50,7 +50,7 @@ fn width_of(size: u64) -> usize
 
 pub fn year_part(year: i64) -> Part
     requires { nat_abs year < 10 ^ 12 }
-    ensures { PartOf (year_text year) result }
+    ensures { part_text result ≡ year_text year }
 {
     let size = year.unsigned_abs();
     Part {
@@ -63,7 +63,7 @@ pub fn year_part(year: i64) -> Part
 // The first digits of a fraction, `width` of them, as one number.
 fn behind_point(width: usize, value: u32) -> Part
     requires { width ≤ 9 }
-    ensures { PartOf (pointed (digits width value)) result }
+    ensures { part_text result ≡ pointed (digits width value) }
 {
     Part {
         mark: (0 < width).then_some(b'.'),
@@ -75,7 +75,7 @@ fn behind_point(width: usize, value: u32) -> Part
 // All nine digits but the zeros at their end.
 fn trimmed(nanos: u32) -> Part
     requires { nanos < 2 ^ 30 }
-    ensures { PartOf (fraction_text None nanos) result }
+    ensures { part_text result ≡ fraction_text None nanos }
 {
     // Whole milliseconds, and whole seconds, end in six zeros. 4295 is 2^32 / 1_000_000, rounded up: the product finds the whole ones, and the test tells them.
     let millis = (nanos as u64 * 4295 >> 32) as u32;
@@ -98,7 +98,7 @@ fn trimmed(nanos: u32) -> Part
 // The first `precision` of the nine digits.
 fn cut(nanos: u32, precision: usize) -> Part
     requires { nanos < 2 ^ 30 }
-    ensures { PartOf (fraction_text (Some precision) nanos) result }
+    ensures { part_text result ≡ fraction_text (Some precision) nanos }
 {
     let width = precision.min(9);
     let mut value = nanos;
@@ -111,7 +111,7 @@ fn cut(nanos: u32, precision: usize) -> Part
 // The fraction with `precision` digits, but never more than nine; with none given, as many as it takes.
 pub fn fraction_part(nanos: u32, precision: Option<usize>) -> Part
     requires { nanos < 2 ^ 30 }
-    ensures { PartOf (fraction_text precision nanos) result }
+    ensures { part_text result ≡ fraction_text precision nanos }
 {
     match precision {
         None => trimmed(nanos),

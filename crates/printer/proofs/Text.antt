@@ -9,9 +9,7 @@ use lib.Seq.{sets}
 use Rattle.std.specs.Prelude.{Option}
 use Rattle.digits.specs.Digits.{digits, field}
 use Rattle.digits.proofs.Stores.{sets_append}
-use Rattle.printed_parts.specs.declared.part.Part.{Part}
 use Rattle.printed_parts.specs.Text.{dash, year_text, fraction_text}
-use Rattle.printed_parts.specs.Parts.{PartOf, part_text}
 use Rattle.printed_parts.proofs.Lengths.{year_bound, fraction_bound}
 use Rattle.printer.specs.declared.Instant.{Instant}
 use Rattle.printer.specs.Text.{space, colon, fields_text, text, Ranged}
@@ -27,10 +25,9 @@ text_length t p =
     ∙ ap (λ n. n + length (fraction_text p t.nanos)) (length-append (year_text t.moment.date.year) (fields_text t) ∙ rw fields_length)
 
 -- a text is its parts
-pub text_of : (t : Instant) (p : Option ℕ) {y f : Part} → PartOf (year_text t.moment.date.year) y → PartOf (fraction_text p t.nanos) f
-    → part_text y ++ fields_text t ++ part_text f ≡ text t p
+pub text_of : (t : Instant) (p : Option ℕ) {y f : List ℕ} → y ≡ year_text t.moment.date.year → f ≡ fraction_text p t.nanos → y ++ fields_text t ++ f ≡ text t p
 unfolding text
-text_of t p y f = rw (y.is, f.is)
+text_of t p y f = rw (y, f)
 
 -- the five fields, each in its place
 pub fields_in_turn : (s : List ℕ) (at : ℕ) (t : Instant)

@@ -42,17 +42,18 @@ both_good {n = n} {m = m} h k = rw (lt-ltb n 1000000000 h, lt-ltb m 1000000000 k
 pub one_good : {A : Type 0} {n : ℕ} {rest : Outcome A} → n < 1000000000 → good_nanos n rest ≡ rest
 one_good {n = n} h = rw (lt-ltb n 1000000000 h) refl
 
+-- where there was no sum
+pub no_sum : {A : Type 0} {s : Option A} {e : CountError} → ◌≡◌ {A = Result A CountError} (Err e) (ok_or s NotRepresentable) → s ≡ None → e ≡ NotRepresentable
+no_sum {A} {e = e} k l = let q : ◌≡◌ {A = Result A CountError} (Err e) (Err NotRepresentable) = k ∙ ap (λ s. ok_or s NotRepresentable) l in cc
+
 -- an error that `?` hands on: 11, or 10
 module _ {A B : Type 0} (form : A → B) (rest : Outcome B) where
   pub bad_nanos : (n : ℕ) (r : Result A CountError) (e : CountError) → IsErrAnd r (λ y. y ≡ e) → (1000000000 ≤ n) × (e ≡ BadNanos) → says form of_count r ≡ good_nanos n rest
   bad_nanos n r e h k = handed_on form of_count r e h ∙ ap (λ e. refuses (of_count e)) k.1 ∙ sym (rw (bad n (omega (arith, k.0))) refl)
 
-  pub not_representable : (z : ℤ) (r : Result A CountError) (e : CountError) → IsErrAnd r (λ y. y ≡ e) → e ≡ NotRepresentable → is_i64 z ≡ false → says form of_count r ≡ representable z rest
-  not_representable z r e h k l = handed_on form of_count r e h ∙ ap (λ e. refuses (of_count e)) k ∙ sym (rw l refl)
-
--- where there was no sum
-pub no_sum : {A : Type 0} {s : Option A} {e : CountError} → ◌≡◌ {A = Result A CountError} (Err e) (ok_or s NotRepresentable) → s ≡ None → e ≡ NotRepresentable
-no_sum {A} {e = e} k l = let q : ◌≡◌ {A = Result A CountError} (Err e) (Err NotRepresentable) = k ∙ ap (λ s. ok_or s NotRepresentable) l in cc
+  pub not_representable : (z : ℤ) {s : Option ℤ} → s ≡ checked z → (r : Result A CountError) (e : CountError) → IsErrAnd r (λ y. y ≡ e)
+      → ◌≡◌ {A = Result ℤ CountError} (Err e) (ok_or s NotRepresentable) → s ≡ None → says form of_count r ≡ representable z rest
+  not_representable z sum r e h k l = handed_on form of_count r e h ∙ ap (λ e. refuses (of_count e)) (no_sum k l) ∙ sym (rw (outside z sum l) refl)
 
 -- the sum as `checked_sum` is handed it, and as it is meant
 pub in_turn : (a more less : ℤ) → a +ℤ pos 0 +ℤ more -ℤ less ≡ a -ℤ less +ℤ more

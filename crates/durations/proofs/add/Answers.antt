@@ -7,7 +7,7 @@ use Rattle.integers.proofs.Sums.{is_checked}
 use Rattle.integers.proofs.Wrapped.{Added, added}
 use Rattle.errors.specs.Refusals.{gives}
 use Rattle.seconds.specs.Counts.{representable}
-use Rattle.seconds.proofs.Checks.{outside, given, one_good, both_good, bad_nanos, not_representable, no_sum}
+use Rattle.seconds.proofs.Checks.{given, one_good, both_good, bad_nanos, not_representable}
 use Rattle.durations.specs.Durations as Durations
 use Rattle.durations.proofs.Nanos.{sum_law, time_none, time_parts}
 use Rattle.durations.proofs.add.Goals as goal
@@ -62,7 +62,7 @@ pub returns-in_err-later : goal.returns-in_err-later
 returns-in_err-later c =
     let e = c.in_err-later.ensures in
     let r = c.from_residual-in_err-later in
-    not_representable _ _ _ r.result _ r.ensures.1 (no_sum e.value e.ok_part) (outside _ (sum (search)) e.ok_part) ∙ meant (search)
+    not_representable _ _ _ (sum (search)) r.result _ r.ensures.1 e.value e.ok_part ∙ meant (search)
 
 pub returns : goal.returns
 returns c =

@@ -7,7 +7,7 @@ use Rattle.integers.proofs.Sums.{is_checked}
 use Rattle.integers.proofs.Wrapped.{Taken, taken}
 use Rattle.errors.specs.Refusals.{gives}
 use Rattle.seconds.specs.Counts.{representable}
-use Rattle.seconds.proofs.Checks.{outside, given, one_good, both_good, bad_nanos, not_representable, no_sum}
+use Rattle.seconds.proofs.Checks.{given, one_good, both_good, bad_nanos, not_representable}
 use Rattle.durations.specs.Durations as Durations
 use Rattle.durations.proofs.Nanos.{difference_law, time_none, time_parts}
 use Rattle.durations.proofs.sub.Goals as goal
@@ -62,7 +62,7 @@ pub returns-in_err-earlier : goal.returns-in_err-earlier
 returns-in_err-earlier c =
     let e = c.in_err-earlier.ensures in
     let r = c.from_residual-in_err-earlier in
-    not_representable _ _ _ r.result _ r.ensures.1 (no_sum e.value e.ok_part) (outside _ (difference (search)) e.ok_part) ∙ meant (search)
+    not_representable _ _ _ (difference (search)) r.result _ r.ensures.1 e.value e.ok_part ∙ meant (search)
 
 pub returns : goal.returns
 returns c =

@@ -5,4 +5,4 @@ use Rattle.printed_parts.proofs.behind_point.Goals as goal
 
 pub returns : goal.returns
 unfolding part_text
-returns c = record { is = rw c.then_some.ensures (point_first c.args.width c.args.value) }
+returns c = rw c.then_some.ensures (point_first c.args.width c.args.value)

@@ -14,4 +14,4 @@ invariant_of-result c =
 
 pub returns : goal.returns
 unfolding part_text
-returns c = record { is = rw (c.then_some.ensures, c.width_of.ensures, c.unsigned_abs-size.ensures.value, to_z-of_z {w = w64} c.ranges.year) (year_is c.args.year) }
+returns c = rw (c.then_some.ensures, c.width_of.ensures, c.unsigned_abs-size.ensures.value, to_z-of_z {w = w64} c.ranges.year) (year_is c.args.year)

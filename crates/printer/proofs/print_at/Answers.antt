@@ -1,10 +1,8 @@
 -- `printer::print_at`: the parts are those of the stamp's text, so the length is that text's, and the part of the line from the place on, put back, has it in front.
-use Rattle.std.proofs.Common.{◌≡◌, ℕ, ◌+◌, ◌≤◌, ℤ, to_z, of_z, ◌∙◌, ap, arith, length, w64, SFits, to_z-of_z, rules, Option}
+use Rattle.std.proofs.Common.{◌≡◌, ℕ, ◌+◌, ◌≤◌, ℤ, to_z, of_z, ◌∙◌, ap, arith, length, w64, SFits, to_z-of_z, rules, List, Option}
 use Rattle.digits.proofs.Stores.{put_back}
 use Rattle.errors.specs.Refusals.{gives}
-use Rattle.printed_parts.specs.declared.part.Part.{Part}
 use Rattle.printed_parts.specs.Text.{year_text, fraction_text}
-use Rattle.printed_parts.specs.Parts.{PartOf, part_text}
 use Rattle.printer.specs.declared.Instant.{Instant}
 use Rattle.printer.specs.Text.{text, Ranged}
 use Rattle.printer.proofs.Text.{text_length, text_of, text_bound}
@@ -12,7 +10,7 @@ use Rattle.printer.proofs.Lent.{outside, narrow, room}
 use Rattle.printer.proofs.print_at.Goals as goal
 
 -- the year's part is that of the stamp's text
-year_is : {y : ℤ} {p : Part} → SFits w64 y → PartOf (year_text (to_z w64 (of_z w64 y))) p → PartOf (year_text y) p
+year_is : {y : ℤ} {s : List ℕ} → SFits w64 y → s ≡ year_text (to_z w64 (of_z w64 y)) → s ≡ year_text y
 year_is f e = rw (to_z-of_z {w = w64} f) at e
 
 -- the length is the text's, and so is what stands before the fraction
@@ -21,11 +19,11 @@ record Sized (t : Instant) (p : Option ℕ) (year all : ℕ) : Type 0 where
   size : all ≡ length (text t p)
   bound : length (text t p) ≤ 38
 
-sized : (t : Instant) (p : Option ℕ) {year fraction : ℕ} {y f : Part} → Ranged t → PartOf (year_text t.moment.date.year) y → PartOf (fraction_text p t.nanos) f
-    → year ≡ length (part_text y) → fraction ≡ length (part_text f) → Sized t p year (year + 15 + fraction)
+sized : (t : Instant) (p : Option ℕ) {year fraction : ℕ} {y f : List ℕ} → Ranged t → y ≡ year_text t.moment.date.year → f ≡ fraction_text p t.nanos
+    → year ≡ length y → fraction ≡ length f → Sized t p year (year + 15 + fraction)
 sized t p r e g l m =
-    let a = l ∙ ap length e.is in
-    record { year_size = a; size = omega (arith, a, m, ap length g.is, text_length t p); bound = text_bound t p r }
+    let a = l ∙ ap length e in
+    record { year_size = a; size = omega (arith, a, m, ap length g, text_length t p); bound = text_bound t p r }
 
 pub returns-then-line-at : goal.returns-then-line-at
 returns-then-line-at c = let r = outside _ _ _ c.if-line-at.true in record { answered = r.0; written = r.1 }
@@ -33,7 +31,7 @@ returns-then-line-at c = let r = outside _ _ _ c.if-line-at.true in record { ans
 pub overflow_add-without_fraction : goal.overflow_add-without_fraction
 overflow_add-without_fraction c =
     let f : SFits w64 c.args.t.moment.date.year = search rules in
-    let l = c.part_length-without_fraction.ensures ∙ ap length (year_is f c.year_part-year.ensures).is in
+    let l = c.part_length-without_fraction.ensures ∙ ap length (year_is f c.year_part-year.ensures) in
     omega (arith, text_length c.args.t c.args.precision, text_bound c.args.t c.args.precision c.requires)
 
 pub overflow_add-length : goal.overflow_add-length

@@ -3,7 +3,7 @@ use Rattle.std.proofs.Common.{◌≡◌, ℤ, ℕ, ◌/◌, ◌%◌, ap, ◌∙�
 use Rattle.integers.specs.Integers.{checked}
 use Rattle.errors.specs.Refusals.{gives}
 use Rattle.seconds.specs.Counts.{from_unix}
-use Rattle.seconds.proofs.Checks.{outside, given, not_representable, no_sum}
+use Rattle.seconds.proofs.Checks.{given, not_representable}
 use Rattle.seconds.proofs.from_unix.Goals as goal
 use Rattle.seconds.proofs.from_unix.Goals.{After-checked_sum}
 
@@ -14,7 +14,7 @@ pub returns-in_err-secs : goal.returns-in_err-secs
 unfolding from_unix
 returns-in_err-secs c =
     let e = c.in_err-secs.ensures in
-    not_representable _ _ _ c.from_residual.result _ c.from_residual.ensures.1 (no_sum e.value e.ok_part) (outside _ (sum (search)) e.ok_part)
+    not_representable _ _ _ (sum (search)) c.from_residual.result _ c.from_residual.ensures.1 e.value e.ok_part
 
 pub returns : goal.returns
 unfolding from_unix

@@ -3,7 +3,7 @@ use Rattle.std.proofs.Common.{◌≡◌, ℤ, ℕ, ap, ◌∙◌, sym, ◌+ℤ�
 use Rattle.integers.specs.Integers.{checked}
 use Rattle.errors.specs.Refusals.{gives}
 use Rattle.seconds.specs.Counts.{over_epoch}
-use Rattle.seconds.proofs.Checks.{outside, given, one_good, in_turn, bad_nanos, not_representable, no_sum}
+use Rattle.seconds.proofs.Checks.{given, one_good, in_turn, bad_nanos, not_representable}
 use Rattle.seconds.proofs.over_epoch.Goals as goal
 use Rattle.seconds.proofs.over_epoch.Goals.{After-checked_sum}
 
@@ -18,7 +18,7 @@ pub returns-in_err-moved : goal.returns-in_err-moved
 unfolding over_epoch
 returns-in_err-moved c =
     let e = c.in_err-moved.ensures in
-    not_representable _ _ _ c.from_residual-in_err-moved.result _ c.from_residual-in_err-moved.ensures.1 (no_sum e.value e.ok_part) (outside _ (sum (search)) e.ok_part)
+    not_representable _ _ _ (sum (search)) c.from_residual-in_err-moved.result _ c.from_residual-in_err-moved.ensures.1 e.value e.ok_part
     ∙ sym (one_good c.in_ok-check_nanos.ensures)
 
 pub returns : goal.returns
