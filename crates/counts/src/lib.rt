@@ -12,12 +12,11 @@ pub use constants::{Constants, all_constants};
 pub use date_seconds::date_time_secs;
 use date_seconds::moment_of;
 use dates::{DateTime, check_fields};
-pub use durations::Duration;
+pub use durations::{Duration, Ordering};
 use errors::{CountError, DateTimeError};
 use moments::near_to_secs;
 pub use seconds::UnixSeconds;
 use seconds::check_nanos;
-use std::cmp::Ordering;
 
 // A reference that seconds count from, in seconds from 1970-01-01 00:00:00 TAI.
 #[derive(Clone, Copy)]

@@ -8,7 +8,7 @@ ghost use Rattle.durations.specs.Durations.{added, taken, since, compared};
 
 use errors::CountError;
 use seconds::{NANOS_PER_SEC, check_nanos};
-use std::cmp::Ordering;
+pub use std::cmp::Ordering;
 
 #[derive(Clone, Copy)]
 pub struct Duration {

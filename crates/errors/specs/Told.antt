@@ -2,7 +2,17 @@
 use Rattle.std.specs.Prelude.{Bool, true, false, Option, Some, None, List, [], ◌∷◌, ℕ, ℤ, pos}
 use Rattle.errors.specs.Refusals.{Refusal, refusal, Outcome, gives, refuses, refuses_in_range_error, of_date_time, of_parse, of_count, of_print}
 use Rattle.errors.specs.declared.refusal.Refusal as Code
-use Rattle.errors.specs.declared.refusal.Refusal.TheVariants.{Date, Text, Count, Print}
+use Rattle.errors.specs.declared.refusal.Refusal.TheVariants.{Date, Text, Count, Print, Other}
+
+-- a refusal that arrived inside a RangeError, or not
+abbrev pub marked : {A : Type 0} → Bool → Refusal → Outcome A
+marked true r = refuses_in_range_error r
+marked false r = refuses r
+
+-- a value, if there is one
+abbrev pub values : Option ℕ → List ℤ
+values None = []
+values (Some v) = pos v ∷ []
 
 -- what it says: the outcome of a refused entry
 abbrev pub told : {A : Type 0} → Code.Refusal → Outcome A
@@ -10,22 +20,17 @@ told (Date e) = refuses (of_date_time e)
 told (Text e) = of_parse e
 told (Count e) = refuses (of_count e)
 told (Print e) = refuses (of_print e)
+told (Other number inside value) = marked inside (refusal number (values value))
 
--- a refusal that arrived inside a RangeError, or not
-abbrev pub marked : {A : Type 0} → Bool → Refusal → Outcome A
-marked true r = refuses_in_range_error r
-marked false r = refuses r
-
--- the number and values of an outcome that is refused
-abbrev refused : Outcome ℕ → Refusal
-refused (gives x) = refusal 0 []
-refused (refuses r) = r
-refused (refuses_in_range_error r) = r
-
+-- its number and values
 abbrev pub inner : Code.Refusal → Refusal
-inner r = refused (told r)
-
--- a value, if there is one
-abbrev pub values : Option ℕ → List ℤ
-values None = []
-values (Some v) = pos v ∷ []
+inner (Date e) = of_date_time e
+inner (Text e) = refused (of_parse e)
+  where
+    refused : Outcome ℕ → Refusal
+    refused (gives x) = refusal 0 []
+    refused (refuses r) = r
+    refused (refuses_in_range_error r) = r
+inner (Count e) = of_count e
+inner (Print e) = of_print e
+inner (Other number inside value) = refusal number (values value)

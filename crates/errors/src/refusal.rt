@@ -1,6 +1,6 @@
 // A refusal as every face hands it on.
-ghost use Rattle.std.specs.Prelude.{◌≡◌, ℕ};
-ghost use Rattle.errors.specs.Refusals.{refuses, of_date_time, of_parse, of_count, of_print};
+ghost use Rattle.std.specs.Prelude.{◌≡◌, [], ◌∷◌, ℕ, pos};
+ghost use Rattle.errors.specs.Refusals.{refusal, refuses, of_date_time, of_parse, of_count, of_print};
 ghost use Rattle.errors.specs.Told.{inner, marked, told, values};
 
 use crate::{CountError, DateTimeError, ParseDateTimeError, PrintError};
@@ -11,9 +11,23 @@ pub enum Refusal {
     Text(ParseDateTimeError),
     Count(CountError),
     Print(PrintError),
+    // One that a crate brings of its own: its number, whether it arrived inside a RangeError, and its value if it has one.
+    Other(u8, bool, Option<u32>),
 }
 
 impl Refusal {
+    pub fn bare(number: u8, in_range_error: bool) -> Refusal
+        ensures { told {A = ℕ} result ≡ marked in_range_error (refusal number []) }
+    {
+        Refusal::Other(number, in_range_error, None)
+    }
+
+    pub fn valued(number: u8, in_range_error: bool, value: u32) -> Refusal
+        ensures { told {A = ℕ} result ≡ marked in_range_error (refusal number (pos value ∷ [])) }
+    {
+        Refusal::Other(number, in_range_error, Some(value))
+    }
+
     // Its number in the table.
     pub fn number(self) -> u8
         ensures { result ≡ (inner self).number }
@@ -27,6 +41,7 @@ impl Refusal {
             Refusal::Count(CountError::BadNanos) | Refusal::Print(PrintError::BadNanos) => 11,
             Refusal::Print(PrintError::StartOutside) => 12,
             Refusal::Print(PrintError::NoRoom(_)) => 13,
+            Refusal::Other(number, _, _) => number,
         }
     }
 
@@ -37,15 +52,20 @@ impl Refusal {
         match self {
             Refusal::Date(e) | Refusal::Text(ParseDateTimeError::RangeError(e)) => e.value(),
             Refusal::Print(PrintError::NoRoom(wanted)) => Some(wanted),
+            Refusal::Other(_, _, value) => value,
             _ => None,
         }
     }
 
-    // Whether it is a date's that a text says.
+    // Whether it arrived inside a RangeError, as a date's does that a text says.
     pub fn in_range_error(self) -> bool
         ensures { told {A = ℕ} self ≡ marked result (inner self) }
     {
-        matches!(self, Refusal::Text(ParseDateTimeError::RangeError(_)))
+        match self {
+            Refusal::Text(ParseDateTimeError::RangeError(_)) => true,
+            Refusal::Other(_, in_range_error, _) => in_range_error,
+            _ => false,
+        }
     }
 }
 

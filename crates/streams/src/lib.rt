@@ -1,7 +1,7 @@
 // The arguments, standard input and standard output of the program `tai`.
 #![tactic(auto)]
 
-ghost use Rattle.std.specs.Prelude.{◌+◌, ◌≤◌, ◌<◌, length, IfOk};
+ghost use Rattle.std.specs.Prelude.{◌+◌, ◌≤◌, ◌<◌, length, MatchResult};
 
 use std::env::{Env, FillError};
 use std::fmt::InlineText;
@@ -34,7 +34,7 @@ pub fn join_arguments(rt: &impl Env, request: &mut [u8]) -> usize
 }
 
 // What failed, and why.
-#[derive(Drop)]
+#[derive(Clone, Copy)]
 pub enum Failure {
     Output(io::Error),
     Input(io::Error),
@@ -47,7 +47,7 @@ pub fn write(rt: &impl Print, bytes: &[u8]) -> Result<(), Failure> {
 // One read, behind the bytes kept, where there is room for one: how many bytes it brought, none at the input's end.
 pub fn read_behind(rt: &impl Input, input: &mut [u8], kept: usize) -> Result<usize, Failure>
     requires { kept < length input.old }
-    ensures { IfOk result (λ bytes. kept + bytes ≤ length input.new) }
+    ensures { MatchResult result (λ bytes. kept + bytes ≤ length input.new) (λ _. kept ≤ length input.new) }
 {
     let mut reader = rt.reader();
     reader.read(&mut input[kept..]).map_err(Failure::Input)

@@ -1,6 +1,6 @@
 -- A line as the code goes over it: the kinds of a row, what stands behind them, and each word by its place. That it comes
 -- to the same as `Rows.antt` is `by_place` (`proofs/Places.antt`).
-use Rattle.std.specs.Prelude.{Bool, ◌&&◌, List, [], ◌∷◌, ℕ, ◌+◌, eqb, pos, length, drop, Some}
+use Rattle.std.specs.Prelude.{Bool, true, ◌&&◌, List, [], ◌∷◌, ℕ, ◌+◌, eqb, pos, length, drop, Some}
 use Rattle.std.specs.Option.{is_some, unwrap_or}
 use Rattle.decimals.specs.Numbers.{begins_with}
 use Rattle.texts.specs.Hex.{hex_bytes}
@@ -10,7 +10,7 @@ use Rattle.words.specs.declared.kinds.Kind.{Kind}
 use Rattle.words.specs.declared.kinds.Kind.TheVariants.{Epoch, I64, I32, U64, U32, U8, Precision, Hex}
 use Rattle.words.specs.Rows.{Kinds, end, rest, ◌▸◌, Answer}
 use Rattle.words.specs.declared.kinds.Tail.{Tail}
-use Rattle.words.specs.declared.kinds.Tail.TheVariants.{End, Rest}
+use Rattle.words.specs.declared.kinds.Tail.TheVariants.{End, Rest, Any}
 
 -- a row's kinds, and what stands behind its words
 abbrev pub kinds_of : Kinds → List Kind
@@ -27,10 +27,11 @@ tail_of (kind ▸ kinds) = tail_of kinds
 unfoldable pub good : Kind → List ℕ → Bool
 good kind s = is_some (meaning kind (field_word s))
 
--- what is left is none, or a blank stands in front of it
+-- what is left is none, or a blank stands in front of it, or nothing is asked of it
 abbrev pub ends : Tail → List ℕ → Bool
 ends End s = eqb (length s) 0
 ends Rest s = begins_with 32 s
+ends Any s = true
 
 -- behind a verb stand the words of a row: a blank and a word of its kind, each behind the one before
 unfoldable pub fits : List Kind → Tail → List ℕ → Bool

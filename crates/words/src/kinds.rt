@@ -12,9 +12,10 @@ pub enum Kind {
     Hex,
 }
 
-// What stands behind the words of a row: the line's end, or all that is left of it behind a blank.
+// What stands behind the words of a row: the line's end, all that is left of it behind a blank, or anything.
 #[derive(Clone, Copy)]
 pub enum Tail {
     End,
     Rest,
+    Any,
 }

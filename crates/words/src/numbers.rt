@@ -4,6 +4,9 @@ ghost use Rattle.words.specs.Numbers.{unsigned, signed};
 
 use decimals::{begins_with, parse_number, skip};
 
+// The top of i64.
+pub const TOP: u64 = i64::MAX as u64;
+
 // A number of an unsigned type whose top is the limit.
 #[tactic(auto, unfolding(crate::specs::Numbers::unsigned))]
 pub(crate) fn parse_unsigned(s: &[u8], limit: u64) -> Option<u64>

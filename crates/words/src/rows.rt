@@ -26,13 +26,14 @@ fn is_good(kind: Kind, s: &[u8]) -> bool
     }
 }
 
-// What is left is none, or a blank stands in front of it.
+// What is left is none, or a blank stands in front of it, or nothing is asked of it.
 fn ends(tail: Tail, s: &[u8]) -> bool
     ensures { result ≡ ends tail s.now }
 {
     match tail {
         Tail::End => s.is_empty(),
         Tail::Rest => begins_with(s, b' '),
+        Tail::Any => true,
     }
 }
 

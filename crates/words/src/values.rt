@@ -5,7 +5,7 @@ ghost use Rattle.words.specs.Words.{word_at};
 ghost use Rattle.words.specs.Kinds.{meaning};
 ghost use Rattle.words.specs.declared.kinds.Kind.TheVariants.{I64, I32, U64, U32, U8};
 
-use crate::numbers::{parse_signed, parse_unsigned};
+use crate::numbers::{TOP, parse_signed, parse_unsigned};
 use crate::words::word_at;
 
 // A type of number, each of which a word says.
@@ -29,7 +29,7 @@ impl FromWord for i64 {
     ghost default_is_zero = { λ x e. e };
 
     fn from_word(word: &[u8]) -> Option<i64> {
-        parse_signed(word, i64::MAX as u64)
+        parse_signed(word, TOP)
     }
 }
 

@@ -2,8 +2,9 @@
 use Rattle.std.proofs.Common.{ap, ◌∙◌, w32, w64, SFits, to_z-of_z, rules}
 use Rattle.texts.specs.Texts.{integer}
 use Rattle.answers.specs.Answers.{line, time_line}
+use Rattle.answers.proofs.Entries.{time_said, date_said, unix_said, duration_said, ordering_said}
 use Rattle.desk.specs.Verbs.{answer_of}
-use Rattle.desk.proofs.Entries.{time_said, date_said, unix_said, duration_said, ordering_said, read_said}
+use Rattle.desk.proofs.Entries.{read_said}
 use Rattle.desk.proofs.verbs.said_of.Goals as goal
 
 pub returns-in-New : goal.returns-in-New
