@@ -22,15 +22,11 @@ told (Count e) = refuses (of_count e)
 told (Print e) = refuses (of_print e)
 told (Other number inside value) = marked inside (refusal number (values value))
 
--- its number and values
+-- the number and values of an outcome that is refused
+abbrev refused : Outcome ℕ → Refusal
+refused (gives x) = refusal 0 []
+refused (refuses r) = r
+refused (refuses_in_range_error r) = r
+
 abbrev pub inner : Code.Refusal → Refusal
-inner (Date e) = of_date_time e
-inner (Text e) = refused (of_parse e)
-  where
-    refused : Outcome ℕ → Refusal
-    refused (gives x) = refusal 0 []
-    refused (refuses r) = r
-    refused (refuses_in_range_error r) = r
-inner (Count e) = of_count e
-inner (Print e) = of_print e
-inner (Other number inside value) = refusal number (values value)
+inner r = refused (told r)

@@ -11,21 +11,33 @@ pub enum Refusal {
     Text(ParseDateTimeError),
     Count(CountError),
     Print(PrintError),
-    // One that a crate brings of its own: its number, whether it arrived inside a RangeError, and its value if it has one.
-    Other(u8, bool, Option<u32>),
+    // One that a crate brings of its own.
+    Other {
+        number: u8,
+        in_range_error: bool,
+        value: Option<u32>,
+    },
 }
 
 impl Refusal {
     pub fn bare(number: u8, in_range_error: bool) -> Refusal
         ensures { told {A = ℕ} result ≡ marked in_range_error (refusal number []) }
     {
-        Refusal::Other(number, in_range_error, None)
+        Refusal::Other {
+            number,
+            in_range_error,
+            value: None,
+        }
     }
 
     pub fn valued(number: u8, in_range_error: bool, value: u32) -> Refusal
         ensures { told {A = ℕ} result ≡ marked in_range_error (refusal number (pos value ∷ [])) }
     {
-        Refusal::Other(number, in_range_error, Some(value))
+        Refusal::Other {
+            number,
+            in_range_error,
+            value: Some(value),
+        }
     }
 
     // Its number in the table.
@@ -41,7 +53,7 @@ impl Refusal {
             Refusal::Count(CountError::BadNanos) | Refusal::Print(PrintError::BadNanos) => 11,
             Refusal::Print(PrintError::StartOutside) => 12,
             Refusal::Print(PrintError::NoRoom(_)) => 13,
-            Refusal::Other(number, _, _) => number,
+            Refusal::Other { number, .. } => number,
         }
     }
 
@@ -52,7 +64,7 @@ impl Refusal {
         match self {
             Refusal::Date(e) | Refusal::Text(ParseDateTimeError::RangeError(e)) => e.value(),
             Refusal::Print(PrintError::NoRoom(wanted)) => Some(wanted),
-            Refusal::Other(_, _, value) => value,
+            Refusal::Other { value, .. } => value,
             _ => None,
         }
     }
@@ -63,7 +75,7 @@ impl Refusal {
     {
         match self {
             Refusal::Text(ParseDateTimeError::RangeError(_)) => true,
-            Refusal::Other(_, in_range_error, _) => in_range_error,
+            Refusal::Other { in_range_error, .. } => in_range_error,
             _ => false,
         }
     }
