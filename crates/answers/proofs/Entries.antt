@@ -3,10 +3,9 @@ use mathlib.Core.Path.{◌≡◌, refl}
 use mathlib.Core.List.{List, ◌++◌}
 use Prim.Native.Nat.{ℕ}
 use lib.IntN.{ℤ}
-use Rattle.std.specs.Prelude.{Result, MatchResult, IsOkAnd, IsErrAnd}
+use Rattle.std.specs.Prelude.{Result}
 use Rattle.std.specs.declared.cmp.Ordering.{Ordering}
-use Rattle.errors.specs.Refusals.{refuses, of_date_time, of_count}
-use Rattle.errors.specs.Told.{told}
+use Rattle.errors.specs.Refusals.{of_date_time, of_count}
 use Rattle.errors.specs.declared.refusal.Refusal as Code
 use Rattle.errors.specs.declared.CountError.{CountError}
 use Rattle.errors.specs.declared.DateTimeError.{DateTimeError}
@@ -19,34 +18,27 @@ use Rattle.answers.specs.Answers.{line, time_line, duration_line, order_text}
 use Rattle.answers.specs.Said.{said_text}
 use Rattle.answers.specs.declared.said.Said.{Said}
 use Rattle.answers.specs.declared.said.Said.TheVariants.{Time, Unix, Lasts, Order}
-use Rattle.answers.proofs.Handed.{said_line}
+use Rattle.answers.proofs.Handed.{Handed, told_as, said_line}
 
--- what an entry hands on
-abbrev pub Handed : {T E : Type 0} → (T → Said) → (E → Code.Refusal → Type 0) → Result T E → Result Said Code.Refusal → Type 0
-Handed handed of a r = MatchResult a (λ t. IsOkAnd r (λ s. s ≡ handed t)) (λ e. IsErrAnd r (of e))
-
-abbrev pub counted : CountError → Code.Refusal → Type 0
-counted e x = told {A = ℕ} x ≡ refuses (of_count e)
-
-abbrev pub timed : TaiTime → Said
-timed t = Time t.secs t.nanos
+abbrev pub as_time : TaiTime → Said
+as_time t = Time t.secs t.nanos
 
 time_text : ℤ × ℕ → List ℕ
 time_text t = integer t.0 ++ (bytes " " ++ natural t.1)
 
-pub time_said : (a : Result TaiTime CountError) (r : Result Said Code.Refusal) → Handed timed counted a r → said_text r ≡ time_line (said_time a)
+pub time_said : (a : Result TaiTime CountError) (r : Result Said Code.Refusal) → Handed as_time (told_as of_count) a r → said_text r ≡ time_line (said_time a)
 unfolding time_text
-time_said = said_line pair time_text timed of_count (λ t. refl)
+time_said = said_line pair time_text as_time of_count (λ t. refl)
 
-pub date_said : (a : Result TaiTime DateTimeError) (r : Result Said Code.Refusal) → Handed timed (λ e x. told {A = ℕ} x ≡ refuses (of_date_time e)) a r → said_text r ≡ time_line (said_date_time a)
+pub date_said : (a : Result TaiTime DateTimeError) (r : Result Said Code.Refusal) → Handed as_time (told_as of_date_time) a r → said_text r ≡ time_line (said_date_time a)
 unfolding time_text
-date_said = said_line pair time_text timed of_date_time (λ t. refl)
+date_said = said_line pair time_text as_time of_date_time (λ t. refl)
 
-pub unix_said : (a : Result UnixSeconds CountError) (r : Result Said Code.Refusal) → Handed (λ u. Unix u.0) counted a r → said_text r ≡ line integer (said_unix a)
+pub unix_said : (a : Result UnixSeconds CountError) (r : Result Said Code.Refusal) → Handed (λ u. Unix u.0) (told_as of_count) a r → said_text r ≡ line integer (said_unix a)
 unix_said = said_line (λ u. u.0) integer (λ u. Unix u.0) of_count (λ u. refl)
 
-pub duration_said : (a : Result Duration CountError) (r : Result Said Code.Refusal) → Handed (λ d. Lasts d.secs d.nanos) counted a r → said_text r ≡ duration_line (said_duration a)
+pub duration_said : (a : Result Duration CountError) (r : Result Said Code.Refusal) → Handed (λ d. Lasts d.secs d.nanos) (told_as of_count) a r → said_text r ≡ duration_line (said_duration a)
 duration_said = said_line (λ d. (d.secs, d.nanos)) (λ d. natural d.0 ++ (bytes " " ++ natural d.1)) (λ d. Lasts d.secs d.nanos) of_count (λ d. refl)
 
-pub ordering_said : (a : Result Ordering CountError) (r : Result Said Code.Refusal) → Handed Order counted a r → said_text r ≡ line order_text (said_ordering a)
+pub ordering_said : (a : Result Ordering CountError) (r : Result Said Code.Refusal) → Handed Order (told_as of_count) a r → said_text r ≡ line order_text (said_ordering a)
 ordering_said = said_line (λ o. o) order_text Order of_count (λ o. refl)

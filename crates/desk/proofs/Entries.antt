@@ -2,7 +2,7 @@
 use mathlib.Core.Path.{◌≡◌, refl, ap, ◌∙◌}
 use Prim.Native.Nat.{ℕ}
 use Rattle.std.specs.Prelude.{Result, Ok, Err}
-use Rattle.errors.specs.Refusals.{refuses, of_parse, of_print}
+use Rattle.errors.specs.Refusals.{of_parse, of_print}
 use Rattle.errors.specs.Told.{told}
 use Rattle.errors.specs.declared.refusal.Refusal as Code
 use Rattle.errors.specs.declared.ParseDateTimeError.{ParseDateTimeError}
@@ -16,13 +16,11 @@ use Rattle.answers.specs.Answers.{line, time_line}
 use Rattle.answers.specs.Said.{said_text}
 use Rattle.answers.specs.declared.said.Said.{Said}
 use Rattle.answers.specs.declared.said.Said.TheVariants.{Number}
-use Rattle.answers.proofs.Entries.{Handed, timed}
+use Rattle.answers.proofs.Handed.{Handed, told_as, said_line}
+use Rattle.answers.proofs.Entries.{as_time}
 
-pub length_said : (a : Result ℕ PrintError) (r : Result Said Code.Refusal) → Handed Number (λ e x. told {A = ℕ} x ≡ refuses (of_print e)) a r → said_text r ≡ line natural (said a)
-length_said (Ok n) (Ok s) h = ap (λ s. said_text (Ok s)) h
-length_said (Ok n) (Err x) h = absurd h
-length_said (Err e) (Ok s) h = absurd h
-length_said (Err e) (Err x) h = ap (line natural) h
+pub length_said : (a : Result ℕ PrintError) (r : Result Said Code.Refusal) → Handed Number (told_as of_print) a r → said_text r ≡ line natural (said a)
+length_said = said_line (λ n. n) natural Number of_print (λ n. refl)
 
 -- what a text's error says, whatever would have been given
 parse_line : (e : ParseDateTimeError) → line natural (of_parse e) ≡ time_line (of_parse e)
@@ -31,7 +29,7 @@ parse_line InvalidFieldWidth = refl
 parse_line InvalidFieldValue = refl
 parse_line (RangeError e) = refl
 
-pub read_said : (a : Result TaiTime ParseDateTimeError) (r : Result Said Code.Refusal) → Handed timed (λ e x. told {A = ℕ} x ≡ of_parse e) a r → said_text r ≡ time_line (said_read a)
+pub read_said : (a : Result TaiTime ParseDateTimeError) (r : Result Said Code.Refusal) → Handed as_time (λ e x. told {A = ℕ} x ≡ of_parse e) a r → said_text r ≡ time_line (said_read a)
 read_said (Ok t) (Ok s) h = ap (λ s. said_text (Ok s)) h
 read_said (Ok t) (Err x) h = absurd h
 read_said (Err e) (Ok s) h = absurd h

@@ -9,12 +9,12 @@ abbrev pub marked : {A : Type 0} → Bool → Refusal → Outcome A
 marked true r = refuses_in_range_error r
 marked false r = refuses r
 
--- a value, if there is one
+-- the values of a refusal that has one or none
 abbrev pub values : Option ℕ → List ℤ
 values None = []
 values (Some v) = pos v ∷ []
 
--- what it says: the outcome of a refused entry
+-- what a refusal that is handed on says, as the outcome of a refused entry: `Other` is one of a crate's own, and says what that crate gave it
 abbrev pub told : {A : Type 0} → Code.Refusal → Outcome A
 told (Date e) = refuses (of_date_time e)
 told (Text e) = of_parse e
@@ -22,11 +22,12 @@ told (Count e) = refuses (of_count e)
 told (Print e) = refuses (of_print e)
 told (Other number inside value) = marked inside (refusal number (values value))
 
--- the number and values of an outcome that is refused
+-- the number and values of an outcome that is refused; `told` gives none that is not
 abbrev refused : Outcome ℕ → Refusal
 refused (gives x) = refusal 0 []
 refused (refuses r) = r
 refused (refuses_in_range_error r) = r
 
+-- those of a refusal
 abbrev pub inner : Code.Refusal → Refusal
 inner r = refused (told r)

@@ -11,7 +11,7 @@ pub enum Refusal {
     Text(ParseDateTimeError),
     Count(CountError),
     Print(PrintError),
-    // One that a crate brings of its own.
+    // One that a crate brings of its own, made by `bare` or `valued`. None here does: callers may (docs/DECISIONS.md, 29).
     Other {
         number: u8,
         in_range_error: bool,

@@ -1,12 +1,11 @@
 -- What printing answers, and what the line is then: document 01, "When the box says no", with document 02, ask 11.
-use Rattle.std.specs.Prelude.{cond, List, [], ◌∷◌, ◌++◌, ℕ, ◌+◌, ◌-◌, ltb, pos, length, take, drop, Result, Ok, Err}
-use Rattle.errors.specs.Refusals.{Outcome, gives, refuses, refusal, of_print}
+use Rattle.std.specs.Prelude.{cond, List, [], ◌∷◌, ◌++◌, ℕ, ◌+◌, ◌-◌, ltb, pos, length, take, drop, Result}
+use Rattle.errors.specs.Refusals.{Outcome, gives, refuses, refusal, says, of_print}
 use Rattle.errors.specs.declared.PrintError.{PrintError}
 
 -- an answer by the number of its bytes, or by its refusal
 abbrev pub said : Result ℕ PrintError → Outcome ℕ
-said (Ok n) = gives n
-said (Err e) = refuses (of_print e)
+said r = says (λ n. n) of_print r
 
 -- one of three, for a text that is to stand in the line s from the place `at` on: the place is beyond the line's length;
 -- the text is longer than what is left; there is room

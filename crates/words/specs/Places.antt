@@ -27,7 +27,7 @@ tail_of (kind ▸ kinds) = tail_of kinds
 unfoldable pub good : Kind → List ℕ → Bool
 good kind s = is_some (meaning kind (field_word s))
 
--- what is left is none, or a blank stands in front of it, or nothing is asked of it
+-- what the tail asks of what is left: that it is empty, that a blank stands in front of it, or nothing (which no row of `Rows.antt` has)
 abbrev pub ends : Tail → List ℕ → Bool
 ends End s = eqb (length s) 0
 ends Rest s = begins_with 32 s

@@ -12,7 +12,7 @@ pub enum Kind {
     Hex,
 }
 
-// What stands behind the words of a row: the line's end, all that is left of it behind a blank, or anything.
+// What stands behind the words of a row: the line's end; all that is left of it behind a blank; anything, as no verb of the desk asks.
 #[derive(Clone, Copy)]
 pub enum Tail {
     End,

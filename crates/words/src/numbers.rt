@@ -4,7 +4,7 @@ ghost use Rattle.words.specs.Numbers.{unsigned, signed};
 
 use decimals::{begins_with, parse_number, skip};
 
-// The top of i64.
+// The top of i64, for callers of this crate too.
 pub const TOP: u64 = i64::MAX as u64;
 
 // A number of an unsigned type whose top is the limit.

@@ -26,7 +26,7 @@ fn is_good(kind: Kind, s: &[u8]) -> bool
     }
 }
 
-// What is left is none, or a blank stands in front of it, or nothing is asked of it.
+// What the tail asks of what is left: that it is empty, that a blank stands in front of it, or nothing.
 fn ends(tail: Tail, s: &[u8]) -> bool
     ensures { result ≡ ends tail s.now }
 {
