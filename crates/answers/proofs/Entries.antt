@@ -20,18 +20,17 @@ use Rattle.answers.specs.declared.said.Said.{Said}
 use Rattle.answers.specs.declared.said.Said.TheVariants.{Time, Unix, Lasts, Order}
 use Rattle.answers.proofs.Handed.{Handed, told_as, said_line}
 
+-- a timestamp in the one form, and its two numbers as they are written
 abbrev pub as_time : TaiTime → Said
 as_time t = Time t.secs t.nanos
 
-time_text : ℤ × ℕ → List ℕ
+abbrev time_text : ℤ × ℕ → List ℕ
 time_text t = integer t.0 ++ (bytes " " ++ natural t.1)
 
 pub time_said : (a : Result TaiTime CountError) (r : Result Said Code.Refusal) → Handed as_time (told_as of_count) a r → said_text r ≡ time_line (said_time a)
-unfolding time_text
 time_said = said_line pair time_text as_time of_count (λ t. refl)
 
 pub date_said : (a : Result TaiTime DateTimeError) (r : Result Said Code.Refusal) → Handed as_time (told_as of_date_time) a r → said_text r ≡ time_line (said_date_time a)
-unfolding time_text
 date_said = said_line pair time_text as_time of_date_time (λ t. refl)
 
 pub unix_said : (a : Result UnixSeconds CountError) (r : Result Said Code.Refusal) → Handed (λ u. Unix u.0) (told_as of_count) a r → said_text r ≡ line integer (said_unix a)

@@ -20,6 +20,7 @@ pub enum Refusal {
 }
 
 impl Refusal {
+    // One of a crate's own that has no value.
     pub fn bare(number: u8, in_range_error: bool) -> Refusal
         ensures { told {A = ℕ} result ≡ marked in_range_error (refusal number []) }
     {
@@ -30,6 +31,7 @@ impl Refusal {
         }
     }
 
+    // One that has a value.
     pub fn valued(number: u8, in_range_error: bool, value: u32) -> Refusal
         ensures { told {A = ℕ} result ≡ marked in_range_error (refusal number (pos value ∷ [])) }
     {
@@ -69,7 +71,7 @@ impl Refusal {
         }
     }
 
-    // Whether it arrived inside a RangeError, as a date's does that a text says.
+    // Whether it arrived inside a RangeError, as that of a date in a text does.
     pub fn in_range_error(self) -> bool
         ensures { told {A = ℕ} self ≡ marked result (inner self) }
     {
